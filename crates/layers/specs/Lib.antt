@@ -1,0 +1,4 @@
+pub mod Widths
+pub mod ChiChi
+pub mod Inverse
+pub mod Linear
