@@ -16,6 +16,8 @@ use Rattle.bits.proofs.Numbers.{number-lt, number-ext, number-bits, bit-number}
 use Rattle.layers.specs.Linear.{place, xorAll, linearBit, linear, mapSize, mapOf, forward, inverseOf, Map-undone, Map-undoes}
 use Rattle.layers.specs.declared.linear.DataMap.{DataMap}
 use Rattle.layers.specs.declared.linear.DataMap.the-variants.{D32, D40}
+use Rattle.layers.specs.declared.linear.LinearMap.{LinearMap}
+use Rattle.layers.specs.declared.linear.LinearMap.the-variants.{Data32, Tag32, Data40, Tweak64, Key128}
 
 abbrev pick : Bool → List ℕ → List ℕ → List ℕ
 pick true a b = a
@@ -130,6 +132,13 @@ map-undone D40 = undo 40 33 17 14 refl _ _ refl (lit< tt)
 linear-lt : (n a : ℕ) (bs : List ℕ) (x : ℕ) → linear n a bs x < 2 ^ n
 unfolding linear
 linear-lt n a bs x = number-lt n (linearBit n a bs (bit x))
+
+pub map-lt : (m : LinearMap) (x : ℕ) → mapOf m x < 2 ^ mapSize m
+map-lt Data32 = linear-lt 32 _ _
+map-lt Tag32 = linear-lt 32 _ _
+map-lt Data40 = linear-lt 40 _ _
+map-lt Tweak64 = linear-lt 64 _ _
+map-lt Key128 = linear-lt 128 _ _
 
 pub inverse-lt : (d : DataMap) (y : ℕ) → inverseOf d y < 2 ^ mapSize (forward d)
 inverse-lt D32 = linear-lt 32 _ _
