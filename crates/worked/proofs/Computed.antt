@@ -1,0 +1,19 @@
+-- The worked values, computed.
+use mathlib.Core.Path.{refl}
+use Rattle.layers.specs.ChiChi.{chichi}
+use Rattle.layers.specs.Linear.{linear}
+use Rattle.worked.specs.Examples.{Worked}
+
+pub worked : Worked
+unfolding chichi linear
+worked = record {
+  whitened-data = refl;
+  whitened-tag = refl;
+  whitened-tweak = refl;
+  chichi-sevens = refl;
+  chichi-ones = refl;
+  chichi-wide = refl;
+  chichi-zero = refl;
+  map-data = refl;
+  map-tag = refl;
+  map-tweak = refl }

@@ -1,0 +1,33 @@
+-- Worked values of the definitions.
+use mathlib.Core.Path.{_≡_}
+use mathlib.Core.List.{List, [], _∷_}
+use Prim.Native.Nat.{ℕ}
+use Rattle.layers.specs.declared.linear.LinearMap.the-variants as maps
+use Rattle.layers.specs.ChiChi.{chichi}
+use Rattle.layers.specs.Linear.{mapOf}
+use Rattle.chilow.specs.declared.path.Path.{Path}
+use Rattle.chilow.specs.declared.path.Path.the-variants.{Data32, Tag32}
+use Rattle.chilow.specs.Algorithm.{State, whitened}
+
+-- the published vector of ChiLow-(32+τ), whitened
+abbrev pub vector : Path → State
+vector p = whitened p 0xFEDCBA98765432107766554433221100 0x0011223344556677 0x01234567
+
+pub record Worked : Type 0 where
+  pub whitened-data : vector Data32 .block ≡ 0x77777777
+  pub whitened-tag : vector Tag32 .block ≡ 0xFFFFFFFF
+  pub whitened-tweak : vector Data32 .tweak ≡ 0x7777777777777777
+  pub chichi-sevens : chichi 16 0x77777777 ≡ 0xF3333333
+  pub chichi-ones : chichi 16 0xFFFFFFFF ≡ 0xFFFF7FFF
+  pub chichi-wide : chichi 32 0x7777777777777777 ≡ 0xF333333333333333
+  pub chichi-zero : chichi 16 0 ≡ 0
+  pub map-data : mapOf maps.Data32 0xF3333333 ≡ 0x1BD9D19D
+  pub map-tag : mapOf maps.Tag32 0xFFFF7FFF ≡ 0x7FF7FBFF
+  pub map-tweak : mapOf maps.Tweak64 0xF333333333333333 ≡ 0xB3B3B73333332323
+
+-- the same values, as a list
+abbrev pub published : List ℕ
+published =
+    0x77777777 ∷ 0xFFFFFFFF ∷ 0x7777777777777777
+    ∷ 0xF3333333 ∷ 0xFFFF7FFF ∷ 0xF333333333333333 ∷ 0
+    ∷ 0x1BD9D19D ∷ 0x7FF7FBFF ∷ 0xB3B3B73333332323 ∷ []
