@@ -16,4 +16,5 @@ worked = record {
   chichi-zero = refl;
   map-data = refl;
   map-tag = refl;
-  map-tweak = refl }
+  map-tweak = refl;
+}

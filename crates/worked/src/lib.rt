@@ -9,7 +9,9 @@ use layers::nonlinear::chi_chi;
 use layers::width::Width;
 
 const KEY: u128 = 0xFEDC_BA98_7654_3210_7766_5544_3322_1100;
+
 const TWEAK: u64 = 0x0011_2233_4455_6677;
+
 const CIPHERTEXT: u64 = 0x0123_4567;
 
 /// The published vector whitened (data, tag, tweak), then ChiChi of four states, then the linear maps of the data,

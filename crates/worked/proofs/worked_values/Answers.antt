@@ -23,4 +23,5 @@ returns c =
     let k = c .apply-3 .ensures .is ∙ worked .map-tweak in
     record {
       table = worked;
-      values = λ z. a z ∷ b z ∷ d z ∷ e z ∷ f z ∷ g z ∷ h z ∷ i z ∷ j z ∷ k z ∷ [] }
+      values = λ z. a z ∷ b z ∷ d z ∷ e z ∷ f z ∷ g z ∷ h z ∷ i z ∷ j z ∷ k z ∷ [];
+    }
