@@ -1,9 +1,7 @@
 // The tweak schedule, from the tweak and the words of the key.
-ghost use mathlib.Core.Bool.{cond};
 ghost use mathlib.Core.Path.{_≡_};
 ghost use lib.ListN.{getD};
-ghost use Rattle.chilow.specs.Paths.{_⊻_};
-ghost use Rattle.chilow.specs.Schedule.{inner, mask as maskOf, tweakSchedule};
+ghost use Rattle.chilow.specs.Schedule.{mask as maskOf, tweakRound, tweakSchedule};
 use crate::key::KeySchedule;
 use layers::linear::LinearMap;
 use layers::linear::apply;
@@ -25,18 +23,28 @@ pub fn tweak_schedule(keys: &KeySchedule, tweak: u64) -> TweakSchedule
     let mut states = [tweak ^ keys.tweak; 9];
     let mut masks = [0; 8];
     for i in 0..8 {
-        let met = mask(i, states[i]);
-        masks[i] = met;
-        states[i + 1] = with_key(i, met, &keys.rounds);
+        let turn = tweak_round(i, states[i], &keys.rounds);
+        masks[i] = turn.mask;
+        states[i + 1] = turn.next;
     }
     TweakSchedule { states, masks }
 }
 
-// The tweak state after round i: the last round adds no word of the key.
-fn with_key(i: usize, mask: u64, rounds: &[u64; 7]) -> u64
-    ensures { λ r. ⌜ r ≡ cond (inner i) (mask ⊻ getD (now (rounds .entry)) i 0) mask ⌝ }
+// What a round makes of the tweak state.
+#[derive(Clone, Copy)]
+struct Turn {
+    mask: u64,
+    next: u64,
+}
+
+// The data takes the state before the word of the key is added, and the last round adds none.
+fn tweak_round(i: usize, state: u64, rounds: &[u64; 7]) -> Turn
+    ensures mask { λ r. ⌜ r .mask ≡ maskOf i state ⌝ }
+    ensures next { λ r. ⌜ r .next ≡ tweakRound i state (getD (now (rounds .entry)) i 0) ⌝ }
 {
-    if i < 7 { mask ^ rounds[i] } else { mask }
+    let mask = mask(i, state);
+    let next = if i < 7 { mask ^ rounds[i] } else { mask };
+    Turn { mask, next }
 }
 
 fn mask(i: usize, state: u64) -> u64

@@ -24,6 +24,53 @@ pub enum DataMap {
     D40,
 }
 
+// The offsets of the inverses.
+const INVERSE_32: [u32; 17] = [
+    3,
+    5,
+    6,
+    7,
+    8,
+    10,
+    13,
+    14,
+    15,
+    17,
+    18,
+    22,
+    24,
+    25,
+    28,
+    30,
+    31,
+];
+
+const INVERSE_40: [u32; 23] = [
+    2,
+    4,
+    6,
+    7,
+    8,
+    10,
+    11,
+    13,
+    14,
+    17,
+    18,
+    19,
+    21,
+    22,
+    23,
+    29,
+    31,
+    32,
+    33,
+    36,
+    37,
+    38,
+    39,
+];
+
 /// That map of a state; bits above its width are not read.
 pub fn apply(map: LinearMap, x: u128) -> u128
     ensures is { λ r. ⌜ r ≡ mapOf map x ⌝ }
@@ -55,60 +102,8 @@ fn unmapped(map: DataMap, y: u128) -> u128
     ensures fits { λ r. ⌜ r < 2 ^ mapSize (forward map) ⌝ }
 {
     match map {
-        DataMap::D32 => circulant(
-            y,
-            32,
-            3,
-            &[
-                3,
-                5,
-                6,
-                7,
-                8,
-                10,
-                13,
-                14,
-                15,
-                17,
-                18,
-                22,
-                24,
-                25,
-                28,
-                30,
-                31,
-            ],
-        ),
-        DataMap::D40 => circulant(
-            y,
-            40,
-            33,
-            &[
-                2,
-                4,
-                6,
-                7,
-                8,
-                10,
-                11,
-                13,
-                14,
-                17,
-                18,
-                19,
-                21,
-                22,
-                23,
-                29,
-                31,
-                32,
-                33,
-                36,
-                37,
-                38,
-                39,
-            ],
-        ),
+        DataMap::D32 => circulant(y, 32, 3, &INVERSE_32),
+        DataMap::D40 => circulant(y, 40, 33, &INVERSE_40),
     }
 }
 

@@ -1,10 +1,8 @@
-use mathlib.Core.Bool.{cond}
 use mathlib.Core.Path.{_≡_, refl, ap, _∙_}
 use Prim.Native.Nat.{ℕ}
 use native.Mathlib.Omega.{arith}
 use lib.ListN.{getD}
-use Rattle.chilow.specs.Paths.{_⊻_}
-use Rattle.chilow.specs.Schedule.{inner, mask, tweakAfter, tweakMask}
+use Rattle.chilow.specs.Schedule.{mask, tweakRound, tweakAfter, tweakMask}
 use Rattle.chilow.proofs.Tables.{filled-none, filled-first, filled-more, filled-next, filled-last, filled-all}
 use Rattle.chilow.proofs.tweak.tweak_schedule.Needs as need
 
@@ -22,10 +20,11 @@ loop-i-again c =
     let w : ℕ = c .args .keys .now .tweak in
     let ws : ℕ → ℕ = λ (k : ℕ). getD (c .args .keys .now .rounds) k 0 in
     let f : ℕ → ℕ = tweakAfter w ws (c .args .tweak) in
-    let met : c .mask-met .result ≡ mask i (f i) = c .mask-met .ensures ∙ ap (mask i) (filled-last f 9 (c .loop-i .states) i (c .loop-i .inv .0)) in (
-      filled-next f 9 (c .loop-i .states) i (c .with-key .result) (omega arith)
-          (c .with-key .ensures ∙ ap (λ (m : ℕ). cond (inner i) (m ⊻ ws i) m) met) (c .loop-i .inv .0),
-      filled-more (tweakMask w ws (c .args .tweak)) 8 (c .loop-i .masks) i (c .mask-met .result) (omega arith) met (c .loop-i .inv .1),
+    let last : getD (c .loop-i .states) i 0 ≡ f i = filled-last f 9 (c .loop-i .states) i (c .loop-i .inv .0) in (
+      filled-next f 9 (c .loop-i .states) i (c .tweak-round-turn .result .next) (omega arith)
+          (c .tweak-round-turn .ensures .next ∙ ap (λ (u : ℕ). tweakRound i u (ws i)) last) (c .loop-i .inv .0),
+      filled-more (tweakMask w ws (c .args .tweak)) 8 (c .loop-i .masks) i (c .tweak-round-turn .result .mask) (omega arith)
+          (c .tweak-round-turn .ensures .mask ∙ ap (mask i) last) (c .loop-i .inv .1),
     )
 
 pub returns : need.returns
