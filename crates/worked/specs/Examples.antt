@@ -2,12 +2,14 @@
 use mathlib.Core.Path.{_≡_}
 use mathlib.Core.List.{List, [], _∷_}
 use Prim.Native.Nat.{ℕ}
+use lib.ListN.{getD}
 use Rattle.layers.specs.declared.linear.LinearMap.the-variants as maps
 use Rattle.layers.specs.ChiChi.{chichi}
 use Rattle.layers.specs.Linear.{mapOf}
+use Rattle.chilow.specs.declared.decrypt.Trace.{Trace}
 use Rattle.chilow.specs.declared.path.Path.{Path}
 use Rattle.chilow.specs.declared.path.Path.the-variants.{Data32, Tag32}
-use Rattle.chilow.specs.Algorithm.{State, whitened}
+use Rattle.chilow.specs.Algorithm.{State, whitened, rows}
 
 -- the published vector of ChiLow-(32+τ), whitened
 abbrev pub vector : Path → State
@@ -24,6 +26,16 @@ pub record Worked : Type 0 where
   pub map-data : mapOf maps.Data32 0xF3333333 ≡ 0x1BD9D19D
   pub map-tag : mapOf maps.Tag32 0xFFFF7FFF ≡ 0x7FF7FBFF
   pub map-tweak : mapOf maps.Tweak64 0xF333333333333333 ≡ 0xB3B3B73333332323
+
+-- what the code computes of the same inputs
+abbrev pub trace : Path → Trace
+trace p = rows p 0xFEDCBA98765432107766554433221100 0x0011223344556677 0x01234567
+
+abbrev pub defined : List ℕ
+defined =
+    getD (trace Data32 .block) 0 0 ∷ getD (trace Tag32 .block) 0 0 ∷ getD (trace Data32 .tweak) 0 0
+    ∷ chichi 16 0x77777777 ∷ chichi 16 0xFFFFFFFF ∷ chichi 32 0x7777777777777777 ∷ chichi 16 0
+    ∷ mapOf maps.Data32 0xF3333333 ∷ mapOf maps.Tag32 0xFFFF7FFF ∷ mapOf maps.Tweak64 0xF333333333333333 ∷ []
 
 -- the same values, as a list
 abbrev pub published : List ℕ

@@ -1,6 +1,6 @@
 // Worked values, proved of the definitions and of the code.
 ghost use mathlib.Core.Path.{_≡_};
-ghost use Rattle.worked.specs.Examples.{Worked, published};
+ghost use Rattle.worked.specs.Examples.{Worked, published, defined};
 use chilow::decrypt::trace_of;
 use chilow::path::Path;
 use layers::linear::LinearMap;
@@ -19,6 +19,12 @@ const CIPHERTEXT: u64 = 0x0123_4567;
 pub fn worked_values() -> [u128; 10]
     ensures table { λ _. ⌜ Worked ⌝ }
     ensures values { λ r. ⌜ r ≡ published ⌝ }
+{
+    computed()
+}
+
+fn computed() -> [u128; 10]
+    ensures { λ r. ⌜ r ≡ defined ⌝ }
 {
     let data = trace_of(Path::Data32, KEY, TWEAK, CIPHERTEXT);
     let tag = trace_of(Path::Tag32, KEY, TWEAK, CIPHERTEXT);
