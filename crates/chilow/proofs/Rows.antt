@@ -41,7 +41,7 @@ module _ (p : Path) (k t x : ℕ) where
   one-round false i d u c = refl
 
   pub after-is : (i : ℕ) → after p k t x i ≡ record {
-    block = dataAfter p (whitening p k) masks x i;
+    block = dataAfter p masks (x ⊻ whitening p k) i;
     tweak = tweakAfter (part k 0 64) (roundWord (cipherOf p) k) t i;
     key = keyAfter (cipherOf p) k i;
   }
@@ -49,7 +49,7 @@ module _ (p : Path) (k t x : ℕ) where
   after-is zero = refl
   after-is (suc i) =
       ap (λ (s : State). cond (inner i) (round p i s) (lastRound p s)) (after-is i)
-      ∙ one-round (inner i) i (dataAfter p (whitening p k) masks x i) (tweakAfter (part k 0 64) (roundWord (cipherOf p) k) t i) (keyAfter (cipherOf p) k i)
+      ∙ one-round (inner i) i (dataAfter p masks (x ⊻ whitening p k) i) (tweakAfter (part k 0 64) (roundWord (cipherOf p) k) t i) (keyAfter (cipherOf p) k i)
 
 -- ---- only the words of rounds 0 to 6 and the masks of rounds 0 to 7 are read
 tweak-ext : (w : ℕ) (ws ws′ : ℕ → ℕ) (t : ℕ) → ((i : ℕ) → i < 7 → ws i ≡ ws′ i) → (i : ℕ) → tweakAfter w ws t i ≡ tweakAfter w ws′ t i
@@ -63,10 +63,10 @@ tweak-ext w ws ws′ t e (suc i) =
     by true q m = ap (λ (z : ℕ). m ⊻ z) (e i (ltb-true i 7 q))
     by false q m = refl
 
-data-ext : (p : Path) (w : ℕ) (ms ms′ : ℕ → ℕ) (x n : ℕ) → ((i : ℕ) → i < n → ms i ≡ ms′ i) → (i : ℕ) → i ≤ n → dataAfter p w ms x i ≡ dataAfter p w ms′ x i
+data-ext : (p : Path) (ms ms′ : ℕ → ℕ) (x n : ℕ) → ((i : ℕ) → i < n → ms i ≡ ms′ i) → (i : ℕ) → i ≤ n → dataAfter p ms x i ≡ dataAfter p ms′ x i
 unfolding dataAfter
-data-ext p w ms ms′ x n e zero l = refl
-data-ext p w ms ms′ x n e (suc i) l = ap₂ (dataRound p i) (data-ext p w ms ms′ x n e i (omega arith)) (e i (omega arith))
+data-ext p ms ms′ x n e zero l = refl
+data-ext p ms ms′ x n e (suc i) l = ap₂ (dataRound p i) (data-ext p ms ms′ x n e i (omega arith)) (e i (omega arith))
 
 word-is : (p : Path) (k : ℕ) → wordOf (keySchedule (cipherOf p) k) p ≡ whitening p k
 word-is Data32 k = refl
@@ -96,13 +96,13 @@ module _ (p : Path) (k t x : ℕ) where
   masks-are i l = table-at _ 8 i l ∙ ap (mask i) (tweaks-are i)
 
   block-row : (i : ℕ) → i ≤ 8
-      → dataAfter p (wordOf keys p) (λ i. getD (tweaks .masks) i 0) x i ≡ after p k t x i .block
+      → dataAfter p (λ i. getD (tweaks .masks) i 0) (x ⊻ wordOf keys p) i ≡ after p k t x i .block
   block-row i l =
-      ap (λ (w : ℕ). dataAfter p w (λ i. getD (tweaks .masks) i 0) x i) (word-is p k)
-      ∙ data-ext p (whitening p k) _ (masks p k t x) x 8 masks-are i l ∙ sym (ap (λ (s : State). s .block) (after-is p k t x i))
+      ap (λ (w : ℕ). dataAfter p (λ i. getD (tweaks .masks) i 0) (x ⊻ w) i) (word-is p k)
+      ∙ data-ext p _ (masks p k t x) (x ⊻ whitening p k) 8 masks-are i l ∙ sym (ap (λ (s : State). s .block) (after-is p k t x i))
 
   -- the three columns of a trace
-  pub block-rows : table 9 (dataAfter p (wordOf keys p) (λ i. getD (tweaks .masks) i 0) x) ≡ table 9 (λ i. after p k t x i .block)
+  pub block-rows : table 9 (dataAfter p (λ i. getD (tweaks .masks) i 0) (x ⊻ wordOf keys p)) ≡ table 9 (λ i. after p k t x i .block)
   block-rows = table-ext _ _ 9 (λ i l. block-row i (omega arith))
 
   pub tweak-rows : tweaks .states ≡ table 9 (λ i. after p k t x i .tweak)
@@ -116,15 +116,15 @@ unfolding outcome decryption
 schedules-decrypt p k t x = block-row p k t x 8 (omega arith)
 
 -- ---- the width of the outcome
-chi-lt : (p : Path) (x : ℕ) → chi p x < 2 ^ size (widthOf p)
+pub chi-lt : (p : Path) (x : ℕ) → chi p x < 2 ^ size (widthOf p)
 chi-lt p x = chichi-lt (half (widthOf p)) x
 
-mixed-lt : (p : Path) (x : ℕ) → mixed p x < 2 ^ size (widthOf p)
+pub mixed-lt : (p : Path) (x : ℕ) → mixed p x < 2 ^ size (widthOf p)
 mixed-lt Data32 x = map-lt (linearOf Data32) (chi Data32 x)
 mixed-lt Tag32 x = map-lt (linearOf Tag32) (chi Tag32 x)
 mixed-lt Data40 x = map-lt (linearOf Data40) (chi Data40 x)
 
-round-lt : (p : Path) (i x m : ℕ) → dataRound p i x m < 2 ^ size (widthOf p)
+pub round-lt : (p : Path) (i x m : ℕ) → dataRound p i x m < 2 ^ size (widthOf p)
 round-lt p i x m = xor-lt (size (widthOf p)) _ _ (by (inner i)) (part-lt m _ (size (widthOf p)))
   where
     by : (b : Bool) → cond b (mixed p x) (chi p x) < 2 ^ size (widthOf p)

@@ -1,3 +1,4 @@
 pub mod Paths
 pub mod Schedule
 pub mod Algorithm
+pub mod Encryption

@@ -10,8 +10,8 @@ use Rattle.layers.specs.declared.width.Width.the-variants.{W32, W40}
 use Rattle.layers.specs.ChiChi.{chichi}
 use Rattle.layers.specs.Linear.{mapOf}
 use Rattle.layers.specs.Widths.{half, size}
-use Rattle.chilow.specs.declared.path.Variant.{Variant}
-use Rattle.chilow.specs.declared.path.Variant.the-variants.{Tagged, Block}
+use Rattle.cipher.specs.declared.Mode.{Mode}
+use Rattle.cipher.specs.declared.Mode.the-variants.{Tagged, Block}
 use Rattle.chilow.specs.declared.path.Path.{Path}
 use Rattle.chilow.specs.declared.path.Path.the-variants.{Data32, Tag32, Data40}
 
@@ -20,7 +20,7 @@ infixl 30 _⊻_
 abbrev pub _⊻_ : ℕ → ℕ → ℕ
 a ⊻ b = bitXor a b
 
-abbrev pub cipherOf : Path → Variant
+abbrev pub cipherOf : Path → Mode
 cipherOf Data32 = Tagged
 cipherOf Tag32 = Tagged
 cipherOf Data40 = Block

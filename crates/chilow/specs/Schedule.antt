@@ -11,8 +11,8 @@ use Rattle.layers.specs.declared.linear.LinearMap.the-variants.{Tweak64, Key128
 use Rattle.layers.specs.ChiChi.{chichi}
 use Rattle.layers.specs.Linear.{mapOf}
 use Rattle.chilow.specs.declared.key.KeySchedule.{KeySchedule}
-use Rattle.chilow.specs.declared.path.Variant.{Variant}
-use Rattle.chilow.specs.declared.path.Variant.the-variants.{Tagged, Block}
+use Rattle.cipher.specs.declared.Mode.{Mode}
+use Rattle.cipher.specs.declared.Mode.the-variants.{Tagged, Block}
 use Rattle.chilow.specs.declared.path.Path.{Path}
 use Rattle.chilow.specs.declared.path.Path.the-variants.{Data32, Tag32, Data40}
 use Rattle.chilow.specs.declared.tweak.TweakSchedule.{TweakSchedule}
@@ -28,30 +28,30 @@ inner i = ltb i 7
 
 -- ---- key
 -- what tells the two ciphers apart
-abbrev pub domain : Variant → ℕ
+abbrev pub domain : Mode → ℕ
 domain Tagged = 0
 domain Block = 2 ^ 31
 
 -- what round i adds to bits 96 to 127 of the key state
-abbrev pub constant : Variant → ℕ → ℕ
+abbrev pub constant : Mode → ℕ → ℕ
 constant v i = i ⊻ 2 ^ (i + 4) ⊻ domain v
 
-abbrev pub keyRound : Variant → ℕ → ℕ → ℕ
+abbrev pub keyRound : Mode → ℕ → ℕ → ℕ
 keyRound v i k = mapOf Key128 (chichi 64 (k ⊻ constant v i * 2 ^ 96))
 
-unfoldable pub keyAfter : Variant → ℕ → ℕ → ℕ
+unfoldable pub keyAfter : Mode → ℕ → ℕ → ℕ
 keyAfter v k zero = k
 keyAfter v k (suc i) = cond (inner i) (keyRound v i (keyAfter v k i)) (keyAfter v k i)
 
-abbrev pub roundWord : Variant → ℕ → ℕ → ℕ
+abbrev pub roundWord : Mode → ℕ → ℕ → ℕ
 roundWord v k i = part (keyAfter v k (suc i)) 0 64
 
 -- how many bits of the key whiten the data
-abbrev pub dataBits : Variant → ℕ
+abbrev pub dataBits : Mode → ℕ
 dataBits Tagged = 32
 dataBits Block = 40
 
-abbrev pub keySchedule : Variant → ℕ → KeySchedule
+abbrev pub keySchedule : Mode → ℕ → KeySchedule
 keySchedule v k =
     record { tweak = part k 0 64; «data» = part k 64 (dataBits v); tag = part k 96 32; rounds = table 7 (roundWord v k) }
 
@@ -76,13 +76,14 @@ tweakSchedule keys t = record {
   masks = table 8 (tweakMask (keys .tweak) (λ i. getD (keys .rounds) i 0) t);
 }
 
--- ---- data: w whitens, ms are the masks of rounds 0 to 7
+-- ---- data: ms are the masks of rounds 0 to 7
 abbrev pub dataRound : Path → ℕ → ℕ → ℕ → ℕ
 dataRound p i x m = cond (inner i) (mixed p x) (chi p x) ⊻ tweakPart p m
 
-unfoldable pub dataAfter : Path → ℕ → (ℕ → ℕ) → ℕ → ℕ → ℕ
-dataAfter p w ms x zero = x ⊻ w
-dataAfter p w ms x (suc i) = dataRound p i (dataAfter p w ms x i) (ms i)
+-- after i rounds, from the whitened state x
+unfoldable pub dataAfter : Path → (ℕ → ℕ) → ℕ → ℕ → ℕ
+dataAfter p ms x zero = x
+dataAfter p ms x (suc i) = dataRound p i (dataAfter p ms x i) (ms i)
 
 -- the word of the key that whitens a path
 abbrev pub wordOf : KeySchedule → Path → ℕ
@@ -92,4 +93,4 @@ wordOf keys Data40 = keys .«data»
 
 -- what a path makes of x in eight rounds
 unfoldable pub outcome : Path → KeySchedule → TweakSchedule → ℕ → ℕ
-outcome p keys tweaks x = dataAfter p (wordOf keys p) (λ i. getD (tweaks .masks) i 0) x 8
+outcome p keys tweaks x = dataAfter p (λ i. getD (tweaks .masks) i 0) (x ⊻ wordOf keys p) 8

@@ -1,4 +1,4 @@
-// The data path, from its whitening word and the masks of the tweak schedule.
+// The data path, from its whitened state and the masks of the tweak schedule.
 ghost use mathlib.Core.Path.{_≡_};
 ghost use Prim.Native.Nat.{_+_, _^_, _<_};
 ghost use lib.ListN.{getD};
@@ -11,11 +11,11 @@ use layers::linear::apply;
 use layers::nonlinear::chi_chi;
 use layers::width::Width;
 
-/// The data state after the whitening of `x` and after each of the eight rounds.
-pub fn data_states(path: Path, whitening: u64, masks: &[u64; 8], x: u64) -> [u64; 9]
-    ensures { λ r. ⌜ r ≡ table 9 (dataAfter path whitening (λ i. getD (now (masks .entry)) i 0) x) ⌝ }
+/// The data state at first, a whitened `x`, and after each of the eight rounds.
+pub fn data_states(path: Path, masks: &[u64; 8], x: u64) -> [u64; 9]
+    ensures { λ r. ⌜ r ≡ table 9 (dataAfter path (λ i. getD (now (masks .entry)) i 0) x) ⌝ }
 {
-    let mut states = [x ^ whitening; 9];
+    let mut states = [x; 9];
     for i in 0..8 {
         states[i + 1] = data_round(path, i, states[i], masks[i]);
     }
@@ -54,7 +54,7 @@ fn mixed(path: Path, x: u64) -> u64
 }
 
 // What the path takes of the tweak state.
-fn met(path: Path, mask: u64) -> u64
+pub(crate) fn met(path: Path, mask: u64) -> u64
     ensures { λ r. ⌜ r ≡ tweakPart path mask ⌝ }
 {
     match path {

@@ -11,11 +11,11 @@ use crate::key::KeySchedule;
 use crate::key::key_schedule;
 use crate::key::key_states;
 use crate::path::Path;
-use crate::path::Variant;
 use crate::tag_length::TagLength;
 use crate::tweak::TweakSchedule;
 use crate::tweak::tweak_schedule;
 use bits::part_of;
+use cipher::Mode;
 
 /// What ChiLow-(32+τ) makes of a ciphertext.
 #[derive(Clone, Copy)]
@@ -36,7 +36,7 @@ pub struct Trace {
 pub fn decrypt_tagged(key: u128, tweak: u64, ciphertext: u32, length: TagLength) -> Opened
     ensures { λ r. ⌜ r ≡ tagged key tweak ciphertext (length .bits) ⌝ }
 {
-    let keys = key_schedule(Variant::Tagged, key);
+    let keys = key_schedule(Mode::Tagged, key);
     let tweaks = tweak_schedule(&keys, tweak);
     let instruction = decrypt_with(Path::Data32, &keys, &tweaks, ciphertext as u64) as u32;
     let state = decrypt_with(Path::Tag32, &keys, &tweaks, ciphertext as u64);
@@ -49,7 +49,7 @@ pub fn decrypt_block(key: u128, tweak: u64, block: u64) -> u64
     ensures is { λ r. ⌜ r ≡ block40 key tweak block ⌝ }
     ensures fits { λ r. ⌜ r < 2 ^ 40 ⌝ }
 {
-    let keys = key_schedule(Variant::Block, key);
+    let keys = key_schedule(Mode::Block, key);
     let tweaks = tweak_schedule(&keys, tweak);
     decrypt_with(Path::Data40, &keys, &tweaks, block)
 }
@@ -60,7 +60,7 @@ pub fn decrypt_with(path: Path, keys: &KeySchedule, tweaks: &TweakSchedule, x: u
     ensures fits { λ r. ⌜ r < 2 ^ size (widthOf path) ⌝ }
     ensures law { λ _. ⌜ Schedules-decrypt ⌝ }
 {
-    let states = data_states(path, whitening_word(keys, path), &tweaks.masks, x);
+    let states = data_states(path, &tweaks.masks, x ^ whitening_word(keys, path));
     states[8]
 }
 
@@ -72,18 +72,18 @@ pub fn trace_of(path: Path, key: u128, tweak: u64, x: u64) -> Trace
     let keys = key_schedule(cipher, key);
     let tweaks = tweak_schedule(&keys, tweak);
     Trace {
-        block: data_states(path, whitening_word(&keys, path), &tweaks.masks, x),
+        block: data_states(path, &tweaks.masks, x ^ whitening_word(&keys, path)),
         tweak: tweaks.states,
         key: key_states(cipher, key),
     }
 }
 
-fn cipher_of(path: Path) -> Variant
+fn cipher_of(path: Path) -> Mode
     ensures { λ r. ⌜ r ≡ cipherOf path ⌝ }
 {
     match path {
-        Path::Data32 | Path::Tag32 => Variant::Tagged,
-        Path::Data40 => Variant::Block,
+        Path::Data32 | Path::Tag32 => Mode::Tagged,
+        Path::Data40 => Mode::Block,
     }
 }
 

@@ -1,6 +1,7 @@
 // The two ChiLow ciphers.
 pub mod data;
 pub mod decrypt;
+pub mod encrypt;
 pub mod key;
 pub mod path;
 pub mod tag_length;

@@ -19,8 +19,8 @@ loop-i-again c =
 
 pub returns : need.returns
 returns c =
-    let f : ℕ → ℕ = keyAfter (c .args .variant) (c .args .key) in
-    filled-all (roundWord (c .args .variant) (c .args .key)) 7 (c .loop-i .words) (c .loop-i .i) (omega arith)
-    (filled-as (λ (k : ℕ). part (getD (c .key-states-states .result) (k + 1) 0) 0 64) (roundWord (c .args .variant) (c .args .key)) 7 (c .loop-i .words) (c .loop-i .i)
+    let f : ℕ → ℕ = keyAfter (c .args .mode) (c .args .key) in
+    filled-all (roundWord (c .args .mode) (c .args .key)) 7 (c .loop-i .words) (c .loop-i .i) (omega arith)
+    (filled-as (λ (k : ℕ). part (getD (c .key-states-states .result) (k + 1) 0) 0 64) (roundWord (c .args .mode) (c .args .key)) 7 (c .loop-i .words) (c .loop-i .i)
     (λ k l. ap (λ (s : ℕ). part s 0 64) (ap (λ (xs : List ℕ). getD xs (k + 1) 0) (c .key-states-states .ensures) ∙ table-at f 9 (k + 1) (omega arith) ∙ ap f (add-one k)))
     (c .loop-i .inv))
