@@ -113,12 +113,12 @@ word-is-data : (v : Mode) (keys : KeySchedule) → wordOf keys (dataPath v) ≡ 
 word-is-data Tagged keys = refl
 word-is-data Block keys = refl
 
-data-lt : (v : Mode) (k : ℕ) → keySchedule v k .«data» < 2 ^ width v
+pub data-lt : (v : Mode) (k : ℕ) → keySchedule v k .«data» < 2 ^ width v
 data-lt Tagged k = part-lt k 64 32
 data-lt Block k = part-lt k 64 40
 
 module _ (v : Mode) (keys : KeySchedule) (tweaks : TweakSchedule) (small : keys .«data» < 2 ^ width v) where
-  source-lt : (y : ℕ) → y < 2 ^ width v → source v keys tweaks y < 2 ^ width v
+  pub source-lt : (y : ℕ) → y < 2 ^ width v → source v keys tweaks y < 2 ^ width v
   unfolding source
   source-lt y h = xor-lt (width v) _ (keys .«data») (before-lt v (λ i. getD (tweaks .masks) i 0) 8 y h) small
 

@@ -1,9 +1,10 @@
 // Encryption of a block: the data path run backward over the same masks.
 ghost use mathlib.Core.Path.{_≡_};
+ghost use Prim.Native.Nat.{_^_, _<_};
 ghost use Rattle.layers.specs.Inverse.{chichi⁻¹};
 ghost use Rattle.layers.specs.Linear.{inverseOf};
 ghost use Rattle.layers.specs.Widths.{half};
-ghost use Rattle.chilow.specs.Encryption.{dataPath, dataMap, undoRound, source, Encryption-undoes, Encryption-undone};
+ghost use Rattle.chilow.specs.Encryption.{dataPath, dataMap, width, undoRound, source, Encryption-undoes, Encryption-undone};
 ghost use Rattle.chilow.specs.Paths.{widthOf};
 use crate::data::met;
 use crate::key::KeySchedule;
@@ -18,6 +19,7 @@ use layers::width::Width;
 /// The block that eight rounds make `y` of, by schedules that were made ahead.
 pub fn encrypt_with(mode: Mode, keys: &KeySchedule, tweaks: &TweakSchedule, y: u64) -> u64
     ensures is { λ r. ⌜ r ≡ source mode (now (keys .entry)) (now (tweaks .entry)) y ⌝ }
+    ensures fits { λ r. ⌜ (now (keys .entry) .«data» < 2 ^ width mode → y < 2 ^ width mode → r < 2 ^ width mode) ⌝ }
     ensures undoes { λ _. ⌜ Encryption-undoes ⌝ }
     ensures undone { λ _. ⌜ Encryption-undone ⌝ }
 {

@@ -6,3 +6,4 @@ pub mod key;
 pub mod path;
 pub mod tag_length;
 pub mod tweak;
+mod word;

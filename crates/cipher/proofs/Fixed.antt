@@ -64,3 +64,11 @@ module _ (encrypt : ℕ → ℕ) (decrypt : ℕ → Option ℕ) (τ : ℕ) (laws
 
 pub laws-fix-decryption : Laws-fix-decryption
 laws-fix-decryption encrypt decrypt τ laws s h = fixed-at encrypt decrypt τ laws s h (decrypt s) refl (decrypted encrypt s) refl
+
+-- so the laws hold of `decrypted` too
+pub laws-derived : (encrypt : ℕ → ℕ) (decrypt : ℕ → Option ℕ) (τ : ℕ) → Laws encrypt decrypt τ → Laws encrypt (decrypted encrypt) τ
+laws-derived encrypt decrypt τ laws = record {
+  small = laws .small;
+  first = λ i h. decrypted-of encrypt decrypt τ laws (encrypt i) i h refl;
+  second = λ s i _ e. let d = decrypted-is encrypt s i e in (d .0, sym (d .1));
+}

@@ -1,8 +1,8 @@
 -- A word cipher, by its meaning.
-use mathlib.Core.Bool.{cond}
+use mathlib.Core.Bool.{Bool, cond, _&&_}
 use mathlib.Core.Path.{_≡_}
-use Prim.Native.Nat.{ℕ, zero, suc, _+_, _*_, _^_, _<_, _≤_}
-use lib.Dec.{eqb}
+use Prim.Native.Nat.{ℕ, zero, suc, _+_, _*_, _^_, _<_}
+use lib.Dec.{eqb, leb}
 use Rattle.std.specs.declared.option.Option.{Option}
 use Rattle.std.specs.declared.option.Option.the-variants.{Some, None}
 use Rattle.cipher.specs.declared.Mode.{Mode}
@@ -14,9 +14,9 @@ modeNumber Tagged = 0
 modeNumber Block = 1
 
 -- which tag lengths a mode can have
-abbrev pub FitsMode : Mode → ℕ → Type 0
-FitsMode Tagged τ = (8 ≤ τ) × (τ ≤ 16)
-FitsMode Block τ = τ ≡ 8
+abbrev pub fitsMode : Mode → ℕ → Bool
+fitsMode Tagged τ = leb 8 τ && leb τ 16
+fitsMode Block τ = eqb τ 8
 
 -- the tweak of an instruction
 abbrev pub tweakOf : ℕ → ℕ → ℕ

@@ -1,11 +1,12 @@
 // A word cipher, by its meaning: what a unit and a shore tool know of it.
+ghost use mathlib.Core.Bool.{true};
 ghost use mathlib.Core.Path.{_≡_};
 ghost use Prim.Native.Nat.{ℕ, _+_, _*_, _^_, _<_};
 ghost use lib.Dec.{eqb};
 ghost use Rattle.std.specs.Options.{isSome};
 ghost use Rattle.std.specs.declared.option.Option.the-variants.{Some};
 ghost use Rattle.cipher.specs.declared.Mode.{Mode as ModeOf};
-ghost use Rattle.cipher.specs.Word.{modeNumber, FitsMode, tweakOf, Rule, decrypted, Lawful, Laws-fix-decryption};
+ghost use Rattle.cipher.specs.Word.{modeNumber, fitsMode, tweakOf, Rule, decrypted, Lawful, Laws-fix-decryption};
 
 /// Where the tag stands: beside the ciphertext, or inside the block.
 #[derive(Clone, Copy, PartialEq, Eq, Debug)]
@@ -15,6 +16,16 @@ pub enum Mode {
 }
 
 impl Mode {
+    /// Whether a tag in this mode can have that many bits: 8 to 16 beside the ciphertext, 8 inside the block.
+    pub fn fits(self, tag_length: u32) -> bool
+        ensures { λ r. ⌜ r ≡ fitsMode self «tag_length» ⌝ }
+    {
+        match self {
+            Mode::Tagged => 8 <= tag_length && tag_length <= 16,
+            Mode::Block => tag_length == 8,
+        }
+    }
+
     /// The number of the mode, 0 or 1.
     pub fn number(self) -> u32
         ensures { λ r. ⌜ r ≡ modeNumber self ⌝ }
@@ -38,7 +49,7 @@ pub trait WordCipher {
 
     law keyed: { (c : Self) → keyOf c < 2 ^ 128 };
 
-    law fitting: { (c : Self) → FitsMode (modeOf c) (tagOf c) };
+    law fitting: { (c : Self) → fitsMode (modeOf c) (tagOf c) ≡ true };
 
     law lawful: { (c : Self) → Lawful (rule c) (modeOf c) (tagOf c) };
 
