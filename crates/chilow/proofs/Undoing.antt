@@ -119,18 +119,17 @@ data-lt Block k = part-lt k 64 40
 
 module _ (v : Mode) (keys : KeySchedule) (tweaks : TweakSchedule) (small : keys .«data» < 2 ^ width v) where
   pub source-lt : (y : ℕ) → y < 2 ^ width v → source v keys tweaks y < 2 ^ width v
-  unfolding source
   source-lt y h = xor-lt (width v) _ (keys .«data») (before-lt v (λ i. getD (tweaks .masks) i 0) 8 y h) small
 
   source-undoes : (x : ℕ) → x < 2 ^ width v → source v keys tweaks (outcome (dataPath v) keys tweaks x) ≡ x
-  unfolding source outcome
+  unfolding outcome
   source-undoes x h =
       ap (λ (w : ℕ). dataBefore v (λ i. getD (tweaks .masks) i 0) (dataAfter (dataPath v) (λ i. getD (tweaks .masks) i 0) (x ⊻ w) 8) 8 ⊻ keys .«data») (word-is-data v keys)
       ∙ ap (λ (z : ℕ). z ⊻ keys .«data») (before-after v (λ i. getD (tweaks .masks) i 0) (x ⊻ keys .«data») (xor-lt (width v) x (keys .«data») h small) 8)
       ∙ xor-back x (keys .«data»)
 
   source-undone : (y : ℕ) → y < 2 ^ width v → outcome (dataPath v) keys tweaks (source v keys tweaks y) ≡ y
-  unfolding source outcome
+  unfolding outcome
   source-undone y h =
       ap (λ (w : ℕ). dataAfter (dataPath v) (λ i. getD (tweaks .masks) i 0) ((dataBefore v (λ i. getD (tweaks .masks) i 0) y 8 ⊻ keys .«data») ⊻ w) 8) (word-is-data v keys)
       ∙ ap (λ (z : ℕ). dataAfter (dataPath v) (λ i. getD (tweaks .masks) i 0) z 8) (xor-back (dataBefore v (λ i. getD (tweaks .masks) i 0) y 8) (keys .«data»))

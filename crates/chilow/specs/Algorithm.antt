@@ -7,8 +7,6 @@ use Rattle.layers.specs.declared.linear.LinearMap.the-variants.{Tweak64, Key128
 use Rattle.layers.specs.ChiChi.{chichi}
 use Rattle.layers.specs.Linear.{mapOf}
 use Rattle.chilow.specs.declared.path.Path.{Path}
-use Rattle.chilow.specs.declared.path.Path.the-variants.{Data32, Tag32, Data40}
-use Rattle.chilow.specs.declared.decrypt.Opened.{Opened}
 use Rattle.chilow.specs.declared.decrypt.Trace.{Trace}
 use Rattle.chilow.specs.Paths.{_⊻_, cipherOf, whitening, tweakPart, chi, mixed}
 use Rattle.chilow.specs.Schedule.{table, inner, keyRound, keySchedule, tweakSchedule, outcome}
@@ -39,6 +37,7 @@ unfoldable pub after : Path → ℕ → ℕ → ℕ → ℕ → State
 after p k t x zero = whitened p k t x
 after p k t x (suc i) = cond (inner i) (round p i (after p k t x i)) (lastRound p (after p k t x i))
 
+-- what x decrypts to: in ChiLow-(32+τ) the instruction on the data path and the tag state on the tag path, in ChiLow-40 the block
 unfoldable pub decryption : Path → ℕ → ℕ → ℕ → ℕ
 decryption p k t x = after p k t x 8 .block
 
@@ -49,14 +48,6 @@ rows p k t x = record {
   tweak = table 9 (λ i. after p k t x i .tweak);
   key = table 9 (λ i. after p k t x i .key);
 }
-
--- ChiLow-(32+τ) of a ciphertext: the instruction, and the tag of τ bits
-abbrev pub tagged : ℕ → ℕ → ℕ → ℕ → Opened
-tagged k t c τ = record { instruction = decryption Data32 k t c; tag = part (decryption Tag32 k t c) 0 τ }
-
--- ChiLow-40 of a block
-abbrev pub block40 : ℕ → ℕ → ℕ → ℕ
-block40 k t x = decryption Data40 k t x
 
 -- the schedules made ahead lead to the same outcome
 abbrev pub Schedules-decrypt : Type 0

@@ -43,7 +43,7 @@ dataBefore v ms y zero = y
 dataBefore v ms y (suc i) = dataBefore v ms (undoRound v i y (ms i)) i
 
 -- what eight rounds make y of, by schedules made ahead
-unfoldable pub source : Mode → KeySchedule → TweakSchedule → ℕ → ℕ
+abbrev pub source : Mode → KeySchedule → TweakSchedule → ℕ → ℕ
 source v keys tweaks y = dataBefore v (λ i. getD (tweaks .masks) i 0) y 8 ⊻ keys .«data»
 
 unfoldable pub encryption : Mode → ℕ → ℕ → ℕ → ℕ

@@ -1,10 +1,11 @@
 // Encryption of a block: the data path run backward over the same masks.
 ghost use mathlib.Core.Path.{_≡_};
 ghost use Prim.Native.Nat.{_^_, _<_};
+ghost use lib.ListN.{getD};
 ghost use Rattle.layers.specs.Inverse.{chichi⁻¹};
 ghost use Rattle.layers.specs.Linear.{inverseOf};
 ghost use Rattle.layers.specs.Widths.{half};
-ghost use Rattle.chilow.specs.Encryption.{dataPath, dataMap, width, undoRound, source, Encryption-undoes, Encryption-undone};
+ghost use Rattle.chilow.specs.Encryption.{dataPath, dataMap, width, undoRound, dataBefore, source, Encryption-undoes, Encryption-undone};
 ghost use Rattle.chilow.specs.Paths.{widthOf};
 use crate::data::met;
 use crate::key::KeySchedule;
@@ -23,13 +24,25 @@ pub fn encrypt_with(mode: Mode, keys: &KeySchedule, tweaks: &TweakSchedule, y: u
     ensures undoes { λ _. ⌜ Encryption-undoes ⌝ }
     ensures undone { λ _. ⌜ Encryption-undone ⌝ }
 {
+    sealed(mode, keys, tweaks, y)
+}
+
+fn sealed(mode: Mode, keys: &KeySchedule, tweaks: &TweakSchedule, y: u64) -> u64
+    ensures { λ r. ⌜ r ≡ source mode (now (keys .entry)) (now (tweaks .entry)) y ⌝ }
+{
+    undo_rounds(mode, &tweaks.masks, y) ^ keys.data
+}
+
+fn undo_rounds(mode: Mode, masks: &[u64; 8], y: u64) -> u64
+    ensures { λ r. ⌜ r ≡ dataBefore mode (λ i. getD (now (masks .entry)) i 0) y 8 ⌝ }
+{
     let mut state = y;
     let mut i = 8;
     while i > 0 {
         i -= 1;
-        state = undo_round(mode, i, state, tweaks.masks[i]);
+        state = undo_round(mode, i, state, masks[i]);
     }
-    state ^ keys.data
+    state
 }
 
 fn undo_round(mode: Mode, i: usize, y: u64, mask: u64) -> u64

@@ -4,6 +4,6 @@ pub mod decrypt;
 pub mod encrypt;
 pub mod key;
 pub mod path;
-pub mod tag_length;
 pub mod tweak;
 mod word;
+pub mod word_cipher;

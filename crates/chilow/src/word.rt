@@ -6,7 +6,7 @@ ghost use Rattle.bits.specs.Number.{part};
 ghost use Rattle.cipher.specs.Word.{fitsMode};
 ghost use Rattle.cipher.specs.declared.Mode.the-variants.{Tagged, Block};
 ghost use Rattle.chilow.specs.declared.path.Path.the-variants.{Tag32};
-ghost use Rattle.chilow.specs.Encryption.{source};
+ghost use Rattle.chilow.specs.Encryption.{width, source};
 ghost use Rattle.chilow.specs.Schedule.{outcome};
 ghost use Rattle.chilow.specs.Words.{storedBy, openedBy};
 use crate::decrypt::decrypt_with;
@@ -17,8 +17,41 @@ use crate::tweak::TweakSchedule;
 use bits::part_of;
 use cipher::Mode;
 
-// What a stored number of a tag of that many bits opens to.
-pub(crate) fn open_tagged(
+// What a stored number opens to.
+pub(crate) fn open_by(
+    mode: Mode,
+    tag_bits: u32,
+    keys: &KeySchedule,
+    tweaks: &TweakSchedule,
+    stored: u64,
+) -> Option<u32>
+    requires { ⌜ fitsMode mode «tag_bits» ≡ true ⌝ }
+    ensures { λ r. ⌜ r ≡ openedBy (λ p x. outcome p (now (keys .entry)) (now (tweaks .entry)) x) mode «tag_bits» stored ⌝ }
+{
+    match mode {
+        Mode::Tagged => open_tagged(keys, tweaks, tag_bits, stored),
+        Mode::Block => open_block(keys, tweaks, stored),
+    }
+}
+
+// The stored number of an instruction.
+pub(crate) fn store_by(
+    mode: Mode,
+    tag_bits: u32,
+    keys: &KeySchedule,
+    tweaks: &TweakSchedule,
+    instruction: u32,
+) -> u64
+    requires { ⌜ fitsMode mode «tag_bits» ≡ true ⌝ ∗ ⌜ now keys .«data» < 2 ^ width mode ⌝ }
+    ensures { λ r. ⌜ r ≡ storedBy (source mode (now (keys .entry)) (now (tweaks .entry))) (λ p x. outcome p (now (keys .entry)) (now (tweaks .entry)) x) mode «tag_bits» instruction ⌝ }
+{
+    match mode {
+        Mode::Tagged => store_tagged(keys, tweaks, tag_bits, instruction),
+        Mode::Block => store_block(keys, tweaks, instruction),
+    }
+}
+
+fn open_tagged(
     keys: &KeySchedule,
     tweaks: &TweakSchedule,
     tag_bits: u32,
@@ -38,7 +71,7 @@ pub(crate) fn open_tagged(
     }
 }
 
-pub(crate) fn open_block(keys: &KeySchedule, tweaks: &TweakSchedule, stored: u64) -> Option<u32>
+fn open_block(keys: &KeySchedule, tweaks: &TweakSchedule, stored: u64) -> Option<u32>
     ensures { λ r. ⌜ r ≡ openedBy (λ p x. outcome p (now (keys .entry)) (now (tweaks .entry)) x) Block 8 stored ⌝ }
 {
     if stored >= 0x100_0000_0000 {
@@ -52,13 +85,7 @@ pub(crate) fn open_block(keys: &KeySchedule, tweaks: &TweakSchedule, stored: u64
     }
 }
 
-// The stored number of an instruction.
-pub(crate) fn store_tagged(
-    keys: &KeySchedule,
-    tweaks: &TweakSchedule,
-    tag_bits: u32,
-    instruction: u32,
-) -> u64
+fn store_tagged(keys: &KeySchedule, tweaks: &TweakSchedule, tag_bits: u32, instruction: u32) -> u64
     requires { ⌜ «tag_bits» ≤ 16 ⌝ ∗ ⌜ now keys .«data» < 2 ^ 32 ⌝ }
     ensures { λ r. ⌜ r ≡ storedBy (source Tagged (now (keys .entry)) (now (tweaks .entry))) (λ p x. outcome p (now (keys .entry)) (now (tweaks .entry)) x) Tagged «tag_bits» instruction ⌝ }
 {
@@ -67,7 +94,7 @@ pub(crate) fn store_tagged(
     side_by_side(ciphertext, tag, tag_bits)
 }
 
-pub(crate) fn store_block(keys: &KeySchedule, tweaks: &TweakSchedule, instruction: u32) -> u64
+fn store_block(keys: &KeySchedule, tweaks: &TweakSchedule, instruction: u32) -> u64
     ensures { λ r. ⌜ r ≡ storedBy (source Block (now (keys .entry)) (now (tweaks .entry))) (λ p x. outcome p (now (keys .entry)) (now (tweaks .entry)) x) Block 8 instruction ⌝ }
 {
     encrypt_with(Mode::Block, keys, tweaks, instruction as u64)

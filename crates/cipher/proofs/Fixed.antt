@@ -72,3 +72,8 @@ laws-derived encrypt decrypt τ laws = record {
   first = λ i h. decrypted-of encrypt decrypt τ laws (encrypt i) i h refl;
   second = λ s i _ e. let d = decrypted-is encrypt s i e in (d .0, sym (d .1));
 }
+
+-- what a test of a stored number lets through
+pub let-through : (b : Bool) (d i : ℕ) → cond b (Some d) None ≡ Some i → (b ≡ true) × (d ≡ i)
+let-through true d i e = (refl, (cc))
+let-through false d i e = let z : _≡_ {A = ℕ} 0 1 = cc in absurd (omega arith)

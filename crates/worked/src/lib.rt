@@ -41,36 +41,3 @@ fn computed() -> [u128; 10]
         apply(LinearMap::Tweak64, 0xF333_3333_3333_3333),
     ]
 }
-
-#[cfg(test)]
-mod tests {
-    use super::*;
-    use chilow::decrypt::decrypt_block;
-    use chilow::decrypt::decrypt_tagged;
-    use chilow::tag_length::TagLength;
-    use std::test::*;
-
-    #[test]
-    fn published_word() -> Result<(), Fail> {
-        for (bits, tag) in [(8, 0x64), (12, 0xE64), (16, 0x7E64)] {
-            let Some(length) = TagLength::new(bits) else {
-                return Err(Fail::new("a tag length is refused"));
-            };
-            let opened = decrypt_tagged(KEY, TWEAK, 0x0123_4567, length);
-            check_eq(opened.instruction, 0x2E75_D127)?;
-            check_eq(opened.tag, tag)?;
-        }
-        Ok(())
-    }
-
-    #[test]
-    fn published_block() -> Result<(), Fail> {
-        check_eq(decrypt_block(KEY, TWEAK, 0x31_7C83_E4A7), 0x90_5457_06)
-    }
-
-    #[test]
-    fn tag_lengths() -> Result<(), Fail> {
-        check(TagLength::new(7).is_none())?;
-        check(TagLength::new(17).is_none())
-    }
-}
