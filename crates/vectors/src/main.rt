@@ -3,6 +3,7 @@ ghost use mathlib.Core.Path.{_≡_};
 ghost use Rattle.vectors.specs.Compared.{differs as differsOf, differing as differingOf};
 
 mod published;
+mod words;
 
 use chilow::decrypt::trace_of;
 use chilow::path::Path;
@@ -10,6 +11,7 @@ use published::BLOCK;
 use published::TAGGED;
 use std::alloc::AllocError;
 use std::error::AnyError;
+use words::print_words;
 
 const KEY: u128 = 0xFEDC_BA98_7654_3210_7766_5544_3322_1100;
 
@@ -59,6 +61,7 @@ fn run(rt: &LibcRuntime) -> Result<(), AnyError> {
     block_cells(&mut more)?;
     println!(rt, "ChiLow-40: computed, published")?;
     print_cells(rt, more.as_slice())?;
+    print_words(rt, KEY, TWEAK)?;
     let differ = differing(cells.as_slice()).saturating_add(differing(more.as_slice()));
     let compared = cells.len().saturating_add(more.len());
     println!(rt, "{compared} values compared, {differ} differ")?;
