@@ -7,6 +7,7 @@ mod words;
 
 use chilow::decrypt::trace_of;
 use chilow::path::Path;
+use cipher::tweak_of;
 use published::BLOCK;
 use published::TAGGED;
 use std::alloc::AllocError;
@@ -15,7 +16,9 @@ use words::print_words;
 
 const KEY: u128 = 0xFEDC_BA98_7654_3210_7766_5544_3322_1100;
 
-const TWEAK: u64 = 0x0011_2233_4455_6677;
+const VERSION: u32 = 0x0011_2233;
+
+const ADDRESS: u32 = 0x4455_6677;
 
 const CIPHERTEXT: u64 = 0x0123_4567;
 
@@ -53,15 +56,16 @@ fn main(rt: LibcRuntime) -> Result<(), AnyError> {
 }
 
 fn run(rt: &LibcRuntime) -> Result<(), AnyError> {
+    let tweak = tweak_of(VERSION, ADDRESS);
     let mut cells = Vec::new(rt.alloc());
-    tagged_cells(&mut cells)?;
+    tagged_cells(&mut cells, tweak)?;
     println!(rt, "ChiLow-(32+t): computed, published")?;
     print_cells(rt, cells.as_slice())?;
     let mut more = Vec::new(rt.alloc());
-    block_cells(&mut more)?;
+    block_cells(&mut more, tweak)?;
     println!(rt, "ChiLow-40: computed, published")?;
     print_cells(rt, more.as_slice())?;
-    print_words(rt, KEY, TWEAK)?;
+    print_words(rt, KEY, tweak)?;
     let differ = differing(cells.as_slice()).saturating_add(differing(more.as_slice()));
     let compared = cells.len().saturating_add(more.len());
     println!(rt, "{compared} values compared, {differ} differ")?;
@@ -84,9 +88,9 @@ fn differing(cells: &[Cell]) -> usize
     count
 }
 
-fn tagged_cells(cells: &mut Vec<Cell>) -> Result<(), AllocError> {
-    let data = trace_of(Path::Data32, KEY, TWEAK, CIPHERTEXT);
-    let tag = trace_of(Path::Tag32, KEY, TWEAK, CIPHERTEXT);
+fn tagged_cells(cells: &mut Vec<Cell>, tweak: u64) -> Result<(), AllocError> {
+    let data = trace_of(Path::Data32, KEY, tweak, CIPHERTEXT);
+    let tag = trace_of(Path::Tag32, KEY, tweak, CIPHERTEXT);
     let first = TAGGED[0];
     add(
         cells,
@@ -96,7 +100,7 @@ fn tagged_cells(cells: &mut Vec<Cell>) -> Result<(), AllocError> {
         first.cipher as u128,
     )?;
     add(cells, 0, Column::Tag, CIPHERTEXT as u128, first.tag as u128)?;
-    add(cells, 0, Column::Tweak, TWEAK as u128, first.tweak as u128)?;
+    add(cells, 0, Column::Tweak, tweak as u128, first.tweak as u128)?;
     add(cells, 0, Column::Key, KEY, first.key)?;
     for i in 0..9 {
         let row = TAGGED[i + 1];
@@ -126,8 +130,8 @@ fn tagged_cells(cells: &mut Vec<Cell>) -> Result<(), AllocError> {
     Ok(())
 }
 
-fn block_cells(cells: &mut Vec<Cell>) -> Result<(), AllocError> {
-    let data = trace_of(Path::Data40, KEY, TWEAK, CIPHER_BLOCK);
+fn block_cells(cells: &mut Vec<Cell>, tweak: u64) -> Result<(), AllocError> {
+    let data = trace_of(Path::Data40, KEY, tweak, CIPHER_BLOCK);
     let first = BLOCK[0];
     add(
         cells,
@@ -136,7 +140,7 @@ fn block_cells(cells: &mut Vec<Cell>) -> Result<(), AllocError> {
         CIPHER_BLOCK as u128,
         first.cipher as u128,
     )?;
-    add(cells, 0, Column::Tweak, TWEAK as u128, first.tweak as u128)?;
+    add(cells, 0, Column::Tweak, tweak as u128, first.tweak as u128)?;
     add(cells, 0, Column::Key, KEY, first.key)?;
     for i in 0..9 {
         let row = BLOCK[i + 1];

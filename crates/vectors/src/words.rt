@@ -3,6 +3,8 @@ use chilow::word_cipher::ChiLow;
 use chilow::word_cipher::ChiLowCipher;
 use cipher::Mode;
 use cipher::WordCipher;
+use cipher::genuine;
+use cipher::round_trip;
 use std::error::AnyError;
 
 const PLAINTEXT: u32 = 0x2E75_D127;
@@ -57,17 +59,16 @@ fn print_life<C: WordCipher>(
     let bits = 32 + cipher.tag_length().min(16);
     let digits = (bits as usize + 3) / 4;
     print!(rt, "{instruction:08X} {stored:0digits$X}")?;
-    print_opened(rt, cipher.decrypt(tweak, stored))?;
-    print_opened(rt, cipher.decrypt(tweak, stored ^ 1))?;
-    print_opened(rt, cipher.decrypt(tweak, stored | (1u64 << bits)))?;
-    println!(rt, "")?;
+    match round_trip(cipher, tweak, instruction) {
+        Some(again) => print!(rt, " {again:08X}")?,
+        None => print!(rt, " rejected")?,
+    }
+    let flipped = verdict(genuine(cipher, tweak, stored ^ 1));
+    let surplus = verdict(genuine(cipher, tweak, stored | (1u64 << bits)));
+    println!(rt, " {flipped} {surplus}")?;
     Ok(())
 }
 
-fn print_opened(rt: &LibcRuntime, opened: Option<u32>) -> Result<(), AnyError> {
-    match opened {
-        Some(instruction) => print!(rt, " {instruction:08X}")?,
-        None => print!(rt, " rejected")?,
-    }
-    Ok(())
+fn verdict(is_genuine: bool) -> &'static str {
+    if is_genuine { "genuine" } else { "rejected" }
 }
