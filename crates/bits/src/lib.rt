@@ -3,6 +3,8 @@ ghost use mathlib.Core.Path.{_≡_};
 ghost use Prim.Native.Nat.{ℕ, _/_, _%_, _^_, _<_};
 ghost use Rattle.bits.specs.Number.{bit, part, Bits-determine, Bits-are-free, Part-bits};
 
+pub mod field;
+
 /// Bit `i` of `x`; past the highest bit it is 0.
 pub fn bit_at(x: u128, i: u32) -> bool
     ensures { λ r. ⌜ r ≡ bit x i ⌝ }
@@ -21,19 +23,19 @@ pub fn part_of(x: u128, start: u32, count: u32) -> u128
     cut(x, start, count)
 }
 
-fn cut(x: u128, start: u32, count: u32) -> u128
+pub(crate) fn cut(x: u128, start: u32, count: u32) -> u128
     ensures { λ r. ⌜ r ≡ part x start count ⌝ }
 {
     low_bits(shifted(x, start), count)
 }
 
-fn shifted(x: u128, by: u32) -> u128
+pub(crate) fn shifted(x: u128, by: u32) -> u128
     ensures { λ r. ⌜ r ≡ x / 2 ^ by ⌝ }
 {
     if by < 128 { x >> by } else { 0 }
 }
 
-fn low_bits(x: u128, count: u32) -> u128
+pub(crate) fn low_bits(x: u128, count: u32) -> u128
     ensures { λ r. ⌜ r ≡ x % 2 ^ count ⌝ }
 {
     if count < 128 { masked(x, count) } else { x }
