@@ -74,7 +74,7 @@ above-same x y s d e = sym (shr-shr x s d) ∙ ap (λ z. z / 2 ^ d) e ∙ shr-sh
 below-bit : (x j k : ℕ) → x / 2 ^ k % 2 ≡ x % 2 ^ (j + (1 + k)) % 2 ^ (1 + k) / 2 ^ k
 below-bit x j k = sym (field-of x 1 k) ∙ ap (λ z. z / 2 ^ k) (sym (mod-mod-pow x j (1 + k)))
 
-below-same : (x y s k : ℕ) → k < s → x % 2 ^ s ≡ y % 2 ^ s → x / 2 ^ k % 2 ≡ y / 2 ^ k % 2
+pub below-same : (x y s k : ℕ) → k < s → x % 2 ^ s ≡ y % 2 ^ s → x / 2 ^ k % 2 ≡ y / 2 ^ k % 2
 below-same x y s k h e =
     let j : ℕ = s - (1 + k) in
     let g : s ≡ j + (1 + k) = omega arith in

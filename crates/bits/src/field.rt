@@ -10,7 +10,8 @@ use crate::shifted;
 
 /// The number of `width` bits from bit `offset` on; bits past the end are 0, and of a wider field the first 64 are read.
 pub fn read_field(bytes: &[u8], offset: usize, width: u32) -> u64
-    ensures { λ r. ⌜ r ≡ field (now (bytes .entry)) offset (min width 64) ⌝ }
+    ensures is { λ r. ⌜ r ≡ field (now (bytes .entry)) offset (min width 64) ⌝ }
+    ensures fits { λ r. ⌜ r < 2 ^ min width 64 ⌝ }
 {
     read_bits(bytes, offset, width.min(64))
 }

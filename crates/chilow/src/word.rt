@@ -111,10 +111,8 @@ fn tag_of(keys: &KeySchedule, tweaks: &TweakSchedule, tag_bits: u32, ciphertext:
     requires { ⌜ «tag_bits» ≤ 16 ⌝ }
     ensures { λ r. ⌜ r ≡ part (outcome Tag32 (now (keys .entry)) (now (tweaks .entry)) ciphertext) 0 «tag_bits» ⌝ }
 {
-    remainder(
-        decrypt_with(Path::Tag32, keys, tweaks, ciphertext),
-        tag_bits,
-    )
+    let state = decrypt_with(Path::Tag32, keys, tweaks, ciphertext);
+    remainder(state, tag_bits)
 }
 
 fn power(k: u32) -> u64
