@@ -2,10 +2,11 @@
 use mathlib.Core.Path.{refl}
 use Rattle.layers.specs.ChiChi.{chichi}
 use Rattle.layers.specs.Linear.{linear}
+use Rattle.image.specs.Layout.{layout}
 use Rattle.worked.specs.Examples.{Worked}
 
 pub worked : Worked
-unfolding chichi linear
+unfolding chichi linear layout
 worked = record {
   whitened-data = refl;
   whitened-tag = refl;
@@ -17,4 +18,6 @@ worked = record {
   map-data = refl;
   map-tag = refl;
   map-tweak = refl;
+  image-of-two = refl;
+  image-of-one = refl;
 }

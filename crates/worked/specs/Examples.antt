@@ -1,11 +1,13 @@
 -- Worked values of the definitions.
 use mathlib.Core.Path.{_≡_}
 use mathlib.Core.List.{List, [], _∷_}
-use Prim.Native.Nat.{ℕ}
+use Prim.Native.Nat.{ℕ, _/_}
 use lib.ListN.{getD}
 use Rattle.layers.specs.declared.linear.LinearMap.the-variants as maps
 use Rattle.layers.specs.ChiChi.{chichi}
 use Rattle.layers.specs.Linear.{mapOf}
+use Rattle.cipher.specs.declared.Mode.the-variants.{Tagged}
+use Rattle.image.specs.Layout.{Head, imageLength, layout}
 use Rattle.chilow.specs.declared.decrypt.Trace.{Trace}
 use Rattle.chilow.specs.declared.path.Path.{Path}
 use Rattle.chilow.specs.declared.path.Path.the-variants.{Data32, Tag32}
@@ -14,6 +16,18 @@ use Rattle.chilow.specs.Algorithm.{State, whitened, rows}
 -- the published vector of ChiLow-(32+τ), whitened
 abbrev pub vector : Path → State
 vector p = whitened p 0xFEDCBA98765432107766554433221100 0x0011223344556677 0x01234567
+
+-- an image of two records with tags of 16 bits, version 7, byte address 0x1000; and the shortest image, one record with a tag of 8 bits
+abbrev pub twoRecords : Head
+twoRecords = record { mode = Tagged; tag = 16; version = 7; base = 0x1000 / 4; count = 2 }
+
+abbrev pub twoRecordBytes : List ℕ
+twoRecordBytes =
+    0x10 ∷ 0x07 ∷ 0x00 ∷ 0x00 ∷ 0x10 ∷ 0x00 ∷ 0x00 ∷ 0x00 ∷ 0x80 ∷ 0x48 ∷ 0xD1 ∷ 0x59 ∷ 0xE2 ∷ 0x6A ∷ 0xC0
+    ∷ 0x00 ∷ 0x00 ∷ 0x00 ∷ 0x00 ∷ 0x00 ∷ 0x40 ∷ []
+
+abbrev pub oneRecord : Head
+oneRecord = record { mode = Tagged; tag = 8; version = 1; base = 0; count = 1 }
 
 pub record Worked : Type 0 where
   pub whitened-data : vector Data32 .block ≡ 0x77777777
@@ -26,6 +40,8 @@ pub record Worked : Type 0 where
   pub map-data : mapOf maps.Data32 0xF3333333 ≡ 0x1BD9D19D
   pub map-tag : mapOf maps.Tag32 0xFFFF7FFF ≡ 0x7FF7FBFF
   pub map-tweak : mapOf maps.Tweak64 0xF333333333333333 ≡ 0xB3B3B73333332323
+  pub image-of-two : layout twoRecords (0x0123456789AB ∷ 1 ∷ []) ≡ twoRecordBytes
+  pub image-of-one : imageLength oneRecord ≡ 14
 
 -- what the code computes of the same inputs
 abbrev pub trace : Path → Trace
