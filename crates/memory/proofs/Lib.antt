@@ -1,0 +1,5 @@
+pub mod Written
+pub mod Packs
+pub mod Pairs
+pub mod Lays
+pub mod Bytes
