@@ -9,7 +9,7 @@ use lib.ListN.{length, getD, set, length-set}
 use lib.Seq.{getD-set-same, getD-set-other}
 use lib.Arith.{digits-lt}
 use lib.Pow.{mod-mod-pow}
-use Rattle.std.proofs.shelf.Bits.{pow-pos, pow-add, shr-shr, shr-split, mod-pow-add, field-of, shr-high, mod-low, shr-below, mod-below}
+use Rattle.std.proofs.shelf.Bits.{pow-pos, pow-add, shr-shr, mod-pow-add, field-of, shr-high, mod-low, shr-below, mod-below}
 use Rattle.std.proofs.shelf.Lists.{same-lists, getD-default}
 use Rattle.std.proofs.shelf.Tests.{cases-eq, cases-lt}
 use Rattle.bits.specs.Field.{bitIn, field, Written, Reads-back, Keeps-others, Bits-are-all}

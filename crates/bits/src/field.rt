@@ -1,7 +1,7 @@
 // Fields of bits in bytes, most significant bit first, a byte at a time.
 ghost use mathlib.Core.Path.{_≡_};
-ghost use Prim.Native.Nat.{ℕ, _+_, _-_, _*_, _/_, _%_, _^_, _<_, _≤_, min};
-ghost use lib.ListN.{length, getD, set};
+ghost use Prim.Native.Nat.{_+_, _-_, _*_, _/_, _%_, _^_, _<_, _≤_, min};
+ghost use lib.ListN.{getD};
 ghost use Rattle.bits.specs.Field.{field, Written, Reads-back, Keeps-others, Bits-are-all};
 ghost use Rattle.bits.specs.Number.{part};
 use crate::cut;

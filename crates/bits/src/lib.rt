@@ -1,6 +1,6 @@
 // The bits of a number, bit 0 the lowest.
 ghost use mathlib.Core.Path.{_≡_};
-ghost use Prim.Native.Nat.{ℕ, _/_, _%_, _^_, _<_};
+ghost use Prim.Native.Nat.{_/_, _%_, _^_, _<_};
 ghost use Rattle.bits.specs.Number.{bit, part, Bits-determine, Bits-are-free, Part-bits};
 
 pub mod field;

@@ -1,17 +1,16 @@
 -- Encryption and decryption undo each other: round by round, and over any masks.
 use mathlib.Core.Bool.{Bool, true, false, cond}
-use mathlib.Core.Path.{_≡_, refl, sym, ap, _∙_, subst}
-use Prim.Native.Nat.{ℕ, zero, suc, _-_, _%_, _^_, _<_}
+use mathlib.Core.Path.{_≡_, refl, sym, ap, _∙_}
+use Prim.Native.Nat.{ℕ, zero, suc, _-_, _^_, _<_}
 use native.Mathlib.Nat.{mod-eq-of-lt}
 use native.Mathlib.Omega.{arith}
 use lib.Bits.{bitXor, xor-assoc, xor-self, xor-zero-r, xor-lt}
 use lib.Dec.{lit<}
 use lib.ListN.{getD}
 use Rattle.bits.proofs.Numbers.{part-lt}
-use Rattle.layers.specs.ChiChi.{chichi}
 use Rattle.layers.specs.Inverse.{chichi⁻¹}
 use Rattle.layers.specs.Linear.{mapOf, inverseOf}
-use Rattle.layers.specs.Widths.{half, size}
+use Rattle.layers.specs.Widths.{half}
 use Rattle.layers.proofs.Bijection.{chichi-undoes, chichi-undone, chichi⁻¹-lt}
 use Rattle.layers.proofs.Linears.{map-undoes, map-undone, inverse-lt}
 use Rattle.cipher.specs.declared.Mode.{Mode}
@@ -22,7 +21,7 @@ use Rattle.chilow.specs.Algorithm.{decryption}
 use Rattle.chilow.specs.Encryption.{dataPath, dataMap, width, undoRound, dataBefore, source, encryption, Encryption-undoes, Encryption-undone}
 use Rattle.chilow.specs.Paths.{_⊻_, linearOf, widthOf, tweakPart, chi, mixed}
 use Rattle.chilow.specs.Schedule.{inner, keySchedule, tweakSchedule, dataRound, dataAfter, wordOf, outcome}
-use Rattle.chilow.proofs.Rows.{chi-lt, mixed-lt, round-lt, schedules-decrypt}
+use Rattle.chilow.proofs.Rows.{chi-lt, round-lt, schedules-decrypt}
 
 xor-back : (a b : ℕ) → (a ⊻ b) ⊻ b ≡ a
 xor-back a b = xor-assoc a b b ∙ ap (bitXor a) (xor-self b) ∙ xor-zero-r a

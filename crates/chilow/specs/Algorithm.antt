@@ -3,7 +3,7 @@ use mathlib.Core.Bool.{cond}
 use mathlib.Core.Path.{_≡_}
 use Prim.Native.Nat.{ℕ, zero, suc}
 use Rattle.bits.specs.Number.{part}
-use Rattle.layers.specs.declared.linear.LinearMap.the-variants.{Tweak64, Key128}
+use Rattle.layers.specs.declared.linear.LinearMap.the-variants.{Tweak64}
 use Rattle.layers.specs.ChiChi.{chichi}
 use Rattle.layers.specs.Linear.{mapOf}
 use Rattle.chilow.specs.declared.path.Path.{Path}

@@ -1,6 +1,6 @@
 -- The two ciphers, and the three data paths that they run: ChiLow-(32+τ) runs the 32-bit data path and the tag path
 -- side by side, ChiLow-40 the 40-bit data path.
-use Prim.Native.Nat.{ℕ, _*_, _^_}
+use Prim.Native.Nat.{ℕ}
 use lib.Bits.{bitXor}
 use Rattle.bits.specs.Number.{part}
 use Rattle.layers.specs.declared.linear.LinearMap.{LinearMap}

@@ -1,7 +1,7 @@
 // Stored words by schedules: the tag beside the ciphertext, or inside the block.
 ghost use mathlib.Core.Bool.{true};
 ghost use mathlib.Core.Path.{_≡_};
-ghost use Prim.Native.Nat.{ℕ, _+_, _*_, _/_, _%_, _^_, _<_, _≤_};
+ghost use Prim.Native.Nat.{_+_, _*_, _/_, _%_, _^_, _<_, _≤_};
 ghost use Rattle.bits.specs.Number.{part};
 ghost use Rattle.cipher.specs.Word.{fitsMode};
 ghost use Rattle.cipher.specs.declared.Mode.the-variants.{Tagged, Block};

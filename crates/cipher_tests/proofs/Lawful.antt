@@ -1,12 +1,12 @@
 -- Bare words keep the two laws.
-use mathlib.Core.Bool.{cond, _&&_}
-use mathlib.Core.Path.{_≡_, refl, sym, ap, ap₂, _∙_}
+use mathlib.Core.Bool.{_&&_}
+use mathlib.Core.Path.{_≡_, ap, _∙_}
 use Prim.Native.Nat.{ℕ, _*_, _/_, _%_, _^_, _<_}
 use native.Mathlib.Omega.{arith}
 use lib.Dec.{eqb, ltb}
 use Rattle.std.proofs.shelf.Bits.{shr-split, shl-shr}
 use Rattle.std.proofs.shelf.Tests.{cond-true, ltb-true, lt-ltb, eqb-true, eq-eqb, and-parts, and-from}
-use Rattle.std.specs.declared.option.Option.the-variants.{Some, None}
+use Rattle.std.specs.declared.option.Option.the-variants.{Some}
 use Rattle.cipher.specs.declared.Mode.the-variants.{Tagged}
 use Rattle.cipher.specs.Word.{Laws}
 use Rattle.cipher.proofs.Fixed.{let-through}

@@ -1,10 +1,9 @@
 -- Laying out and reading are inverse.
-use mathlib.Core.Bool.{Bool, true, false, not, cond, _&&_}
+use mathlib.Core.Bool.{Bool, true, false, not, cond}
 use mathlib.Core.Path.{_≡_, refl, sym, ap, ap₂, _∙_, subst}
-use mathlib.Core.List.{List, [], _∷_, _++_, map}
-use mathlib.Core.Logic.{inl, inr}
+use mathlib.Core.List.{List, _++_}
 use Prim.Native.Nat.{ℕ, zero, suc, _+_, _-_, _*_, _/_, _%_, _^_, _≤_, _<_}
-use native.Mathlib.Nat.{zero-mul, zero-add, mod-eq-of-lt, div-one, add-zero}
+use native.Mathlib.Nat.{zero-add, mod-eq-of-lt, div-one, add-zero}
 use native.Mathlib.Omega.{arith}
 use lib.Dec.{eqb, ltb, leb}
 use lib.ListN.{length, getD}
@@ -14,7 +13,6 @@ use Rattle.std.proofs.shelf.Lists.{same-lists, getD-default}
 use Rattle.std.proofs.shelf.Tests.{cond-true, cond-false, eqb-true, eqb-false, eq-eqb, ne-eqb, leb-true, le-ltb, ltb-false, and-parts, and-from}
 use Rattle.std.specs.declared.option.Option.{Option}
 use Rattle.std.specs.declared.option.Option.the-variants.{Some, None}
-use Rattle.std.specs.Iters.{counting}
 use Rattle.bits.specs.Field.{field}
 use Rattle.bits.proofs.Fields.{field-lt, field-split, field-byte}
 use Rattle.cipher.specs.declared.Mode.{Mode}
@@ -22,8 +20,8 @@ use Rattle.cipher.specs.declared.Mode.the-variants.{Tagged, Block}
 use Rattle.cipher.specs.Word.{modeNumber, fitsMode}
 use Rattle.refusal.specs.declared.HeaderField.the-variants.{Form, TagLength, Count, Base}
 use Rattle.refusal.specs.declared.Refusal.{Refusal}
-use Rattle.refusal.specs.declared.Refusal.the-variants.{Stub, BadHeader, Misfit}
-use Rattle.image.specs.Laws.{Proper, Read-as, Layout-is-read, Only-layout-is-read}
+use Rattle.refusal.specs.declared.Refusal.the-variants.{BadHeader}
+use Rattle.image.specs.Laws.{Proper, Layout-is-read, Only-layout-is-read}
 use Rattle.image.specs.Layout.{Head, headFields, recordFields, recordBits, joined, widths, bytesOf, endOf, imageLength, layout}
 use Rattle.image.specs.Reading.{modeFrom, headIn, recordIn, recordsIn, padIn, fitsLength, headRefusal, fitRefusal, orElse, refusalOf}
 use Rattle.image.proofs.Packing.{length-bytes, byte-of, field-of-bytes, field-part, joined-is, widths-uniform, uniform-lt, uniform-at, uniform-read}

@@ -1,12 +1,12 @@
 -- Bytes of a number, and fields one after the other as a number.
-use mathlib.Core.Path.{_≡_, refl, sym, ap, ap₂, _∙_, subst}
-use mathlib.Core.List.{List, [], _∷_, _++_, map}
+use mathlib.Core.Path.{_≡_, refl, sym, ap, ap₂, _∙_}
+use mathlib.Core.List.{List, [], _∷_, map}
 use Prim.Native.Nat.{ℕ, zero, suc, _+_, _-_, _*_, _/_, _%_, _^_, _≤_, _<_}
 use native.Mathlib.Nat.{add-mul, mul-assoc, zero-mul, zero-add, add-assoc, mod-mod}
 use native.Mathlib.Omega.{arith}
 use lib.Arith.{digits-lt}
 use lib.ListN.{length, getD}
-use Rattle.std.proofs.shelf.Bits.{pow-add, pow-pos, shr-shr, shr-high, mod-low}
+use Rattle.std.proofs.shelf.Bits.{pow-add, shr-shr, shr-high, mod-low}
 use Rattle.std.specs.Iters.{counting}
 use Rattle.bits.specs.Field.{bitIn, field}
 use Rattle.bits.proofs.Fields.{below-same, field-is, field-lt, field-split}

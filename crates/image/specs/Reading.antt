@@ -24,11 +24,11 @@ modeFrom (suc _) = Block
 -- the header in the first 66 bits
 abbrev pub headIn : List ℕ → Head
 headIn bytes = record {
-  mode = modeFrom (field bytes 2 1);
-  tag = field bytes 3 5;
-  version = field bytes 8 8;
-  base = field bytes 16 30;
-  count = field bytes 46 20;
+  mode = modeFrom (field bytes modeAt modeBits);
+  tag = field bytes tagAt tagBits;
+  version = field bytes versionAt versionBits;
+  base = field bytes baseAt baseBits;
+  count = field bytes countAt countBits;
 }
 
 -- record k, and all records

@@ -1,11 +1,10 @@
 // Checking an image, and reading its records.
 ghost use mathlib.Core.Path.{_≡_};
-ghost use Prim.Native.Nat.{ℕ, _+_, _*_, _-_, _^_, _<_, _≤_};
+ghost use Prim.Native.Nat.{_+_, _*_, _-_, _<_};
 ghost use lib.ListN.{length};
 ghost use Rattle.std.specs.Results.{Cases};
 ghost use Rattle.std.specs.declared.option.Option.the-variants.{Some, None};
 ghost use Rattle.image.specs.Laws.{Layout-is-read, Only-layout-is-read};
-ghost use Rattle.image.specs.Layout.{endOf, imageLength};
 ghost use Rattle.image.specs.Reading.{modeFrom, headIn, headOf, recordIn, recordAt, padIn, headRefusal, fitRefusal, refusalOf};
 use crate::header::Header;
 use bits::field::read_field;

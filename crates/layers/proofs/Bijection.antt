@@ -4,7 +4,7 @@ use mathlib.Core.Bool.{Bool, false}
 use Prim.Native.Nat.{ℕ, zero, suc, _+_, _-_, _*_, _/_, _%_, _^_, _<_}
 use native.Mathlib.Nat.{mod-eq-of-lt}
 use native.Mathlib.Omega.{arith}
-use Rattle.bits.specs.Number.{bit, number}
+use Rattle.bits.specs.Number.{bit}
 use Rattle.bits.proofs.Numbers.{number-lt, number-ext, number-bits, bit-number}
 use Rattle.layers.specs.ChiChi.{chiBit, chichi}
 use Rattle.layers.specs.Inverse.{Pair, walk, around, fixedPair, stateBit, chichi⁻¹, Undoes, Undone}

@@ -11,9 +11,9 @@ use lib.ListN.{length, getD, drop}
 use lib.Seq.{drop-cons}
 use Rattle.std.proofs.shelf.Lists.{drop-all}
 use Rattle.std.proofs.shelf.Tests.{eqb-true}
-use Rattle.bits.specs.Number.{bit, number, _⊕_}
+use Rattle.bits.specs.Number.{bit, _⊕_}
 use Rattle.bits.proofs.Numbers.{number-lt, number-ext, number-bits, bit-number}
-use Rattle.layers.specs.Linear.{place, xorAll, linearBit, linear, mapSize, mapOf, forward, inverseOf, Map-undone, Map-undoes}
+use Rattle.layers.specs.Linear.{xorAll, linearBit, linear, mapSize, mapOf, forward, inverseOf, Map-undone, Map-undoes}
 use Rattle.layers.specs.declared.linear.DataMap.{DataMap}
 use Rattle.layers.specs.declared.linear.DataMap.the-variants.{D32, D40}
 use Rattle.layers.specs.declared.linear.LinearMap.{LinearMap}

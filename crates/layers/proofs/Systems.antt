@@ -1,12 +1,11 @@
 -- The equations between the bits x of a state and the bits y of its ChiChi, and their solution.
 use mathlib.Core.Path.{_≡_, refl, sym, ap, _∙_, subst}
-use mathlib.Core.Bool.{Bool, not, cond, _&&_}
+use mathlib.Core.Bool.{Bool, not, cond}
 use mathlib.Core.Logic.{inl, inr}
 use Prim.Native.Nat.{ℕ, zero, suc, _+_, _-_, _≤_, _<_}
 use native.Mathlib.Omega.{arith}
 use lib.Dec.{eqb, ltb}
 use Rattle.std.proofs.shelf.Tests.{cases-lt, cases-eq, lt-ltb, le-ltb, cond-true, cond-false}
-use Rattle.bits.specs.Number.{_⊕_}
 use Rattle.layers.specs.ChiChi.{gate, chiBit}
 use Rattle.layers.specs.Inverse.{Pair, step, walk, cross, back, crossing, around, stateBit}
 

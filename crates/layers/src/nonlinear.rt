@@ -1,5 +1,4 @@
 // ChiChi and its inverse.
-ghost use mathlib.Core.Bool.{not};
 ghost use mathlib.Core.Path.{_≡_};
 ghost use Prim.Native.Nat.{ℕ, _+_, _-_, _*_, _%_, _^_, _<_, _≤_};
 ghost use Rattle.bits.specs.Number.{bit, digit, number};

@@ -1,6 +1,6 @@
 ghost use mathlib.Core.Path.{_≡_};
 ghost use Prim.Native.Nat.{_%_, _<_, _≤_};
-ghost use Rattle.layers.specs.Widths.{half, size};
+ghost use Rattle.layers.specs.Widths.{half};
 
 /// The widths of a ChiLow state, in bits.
 #[derive(Clone, Copy, PartialEq, Eq, Debug)]

@@ -1,7 +1,7 @@
 -- What a memory is to its user: a list of slots, and a rest that no write changes.
 use mathlib.Core.List.{List}
 use mathlib.Core.Bool.{cond}
-use Prim.Native.Nat.{ℕ, _<_, _≤_}
+use Prim.Native.Nat.{ℕ, _^_, _<_, _≤_}
 use lib.ListN.{length, getD, set}
 use lib.Dec.{ltb}
 use Rattle.std.specs.declared.result.Result.{Result}
@@ -13,9 +13,9 @@ use Rattle.refusal.specs.declared.Refusal.the-variants.{NoSlot, TooWide}
 abbrev pub most : ℕ
 most = 1048575
 
--- the first number that is too wide for a slot, 2^48
+-- the first number that is too wide for a slot
 abbrev pub wide : ℕ
-wide = 281474976710656
+wide = 2 ^ 48
 
 -- the law of the slots
 pub record Sound (slots : List ℕ) : Type 0 where

@@ -1,10 +1,8 @@
-use mathlib.Core.List.{List}
-use mathlib.Core.Path.{_≡_, sym, ap, _∙_}
+use mathlib.Core.Path.{sym, ap, _∙_}
 use Prim.Native.Nat.{ℕ, _+_}
 use native.Mathlib.Omega.{arith}
 use Rattle.std.proofs.shelf.Lists.{take-all}
 use Rattle.std.proofs.shelf.Sums.{countBy-more-yes, countBy-more-no}
-use Rattle.vectors.specs.declared.Cell.{Cell}
 use Rattle.vectors.specs.Compared.{differs, differing}
 use Rattle.vectors.proofs.differing.Needs as need
 use Rattle.vectors.proofs.differing.Needs.{then-differs, else-differs}

@@ -3,7 +3,7 @@ use Prim.Native.Nat.{ℕ, _+_, _%_, _^_, _<_}
 use Rattle.bits.specs.Number.{bit, number}
 use Rattle.layers.specs.ChiChi.{chichi}
 use Rattle.layers.specs.Inverse.{Pair, stateBit, chichi⁻¹}
-use Rattle.layers.specs.Widths.{half, size}
+use Rattle.layers.specs.Widths.{half}
 use Rattle.layers.proofs.Bijection.{chichi-undoes, chichi-undone, chichi⁻¹-lt, only-one}
 use Rattle.layers.proofs.nonlinear.chi_chi_inverse.Needs as need
 
