@@ -1,4 +1,6 @@
 // The bits of a number, bit 0 the lowest.
+#![tactic(auto)]
+
 ghost use Rattle.std.specs.Prelude.{◌≡◌, ◌/◌, ◌%◌, ◌^◌, ◌<◌};
 ghost use Rattle.bits.specs.Number.{bit, part, BitsDetermine, BitsAreFree, PartBits};
 

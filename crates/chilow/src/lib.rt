@@ -1,3 +1,5 @@
 // The two ChiLow ciphers.
+#![tactic(auto)]
+
 mod word;
 pub mod word_cipher;

@@ -1,4 +1,6 @@
 // A third cipher, which shows that what is generic is generic, and tests of all three.
+#![tactic(auto)]
+
 ghost use Rattle.std.specs.Prelude.{◌≡◌, ◌^◌, ◌<◌};
 ghost use Rattle.cipher.specs.declared.Mode.TheVariants.{Tagged};
 ghost use Rattle.cipher_tests.specs.Bare.{bare, bare_opened};

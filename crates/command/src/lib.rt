@@ -1,4 +1,6 @@
 // What a console line means, its answer as a value, and the text of an answer.
+#![tactic(auto)]
+
 pub mod digits;
 pub mod forms;
 pub mod reply;

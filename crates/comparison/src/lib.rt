@@ -1,4 +1,6 @@
 // Computed states beside the published ones, and how many differ.
+#![tactic(auto)]
+
 ghost use Rattle.std.specs.Prelude.{◌≡◌};
 ghost use Rattle.comparison.specs.Compared.{differs as differs_of, differing as differing_of};
 

@@ -1,4 +1,6 @@
 // The console: a unit over one chip of 384 bytes, spoken to line by line.
+#![tactic(auto)]
+
 use anyhow::anyhow;
 use chilow::word_cipher::ChiLow;
 use chips::packed::Packed;

@@ -1,4 +1,6 @@
 // The unit with ChiLow.
+#![tactic(auto)]
+
 ghost use Rattle.std.specs.Prelude.{◌≡◌, ℕ};
 ghost use Rattle.chilow.specs.Words.{chilow};
 ghost use Rattle.guard.specs.Published.{published};

@@ -1,4 +1,5 @@
 // Tests of images: each refusal with its place, and that the earlier one wins.
+#![tactic(auto)]
 
 #[cfg(test)]
 mod tests {

@@ -1,4 +1,6 @@
 // What a unit can be asked and what it answers; in specs/, what a unit is, the history of its calls, and the law of its life.
+#![tactic(auto)]
+
 use refusal::Refusal;
 
 pub mod make;

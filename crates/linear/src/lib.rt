@@ -1,4 +1,6 @@
 // The linear maps, and the inverses of the two that encryption undoes.
+#![tactic(auto)]
+
 ghost use Rattle.std.specs.Prelude.{◌≡◌, ℕ, ◌+◌, ◌*◌, ◌%◌, ◌^◌, ◌<◌, ◌≤◌, length, slice_index};
 ghost use Rattle.bits.specs.Number.{bit, digit};
 ghost use Rattle.linear.specs.Linear.{place, linear_bit, linear as linear_of, map_size, map_of, forward, inverse_of, MapUndone, MapUndoes};

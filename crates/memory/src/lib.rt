@@ -1,4 +1,6 @@
 // Outside memories: what the device sees of its chips is a list of numbered slots.
+#![tactic(auto)]
+
 ghost use Rattle.std.specs.Prelude.{◌≡◌, ℕ, List, length};
 ghost use Rattle.memory.specs.Slots.{Sound, Rest, read_of, write_of, after_write};
 

@@ -1,4 +1,5 @@
 // Tests of pages, with bare words, so that the images can be worked out by hand.
+#![tactic(auto)]
 
 #[cfg(test)]
 mod tests {

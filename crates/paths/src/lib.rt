@@ -1,4 +1,6 @@
 // The data paths of ChiLow: decryption and encryption of a block by schedules.
+#![tactic(auto)]
+
 pub mod data;
 pub mod decrypt;
 pub mod encrypt;

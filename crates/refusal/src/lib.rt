@@ -1,4 +1,6 @@
 // What is not allowed is refused with a number, a place and a layer: one type for all.
+#![tactic(auto)]
+
 ghost use Rattle.std.specs.Prelude.{◌≡◌};
 ghost use Rattle.refusal.specs.Table.{bit_of, note_of};
 

@@ -1,4 +1,5 @@
 // Tests of drafts: an image worked out by hand, word by word and all at once, and each refusal with its place.
+#![tactic(auto)]
 
 #[cfg(test)]
 mod tests {

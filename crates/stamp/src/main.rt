@@ -1,4 +1,6 @@
 // Makes the image of a program of two words by a draft, each state of which is used once.
+#![tactic(auto)]
+
 use chilow::word_cipher::ChiLow;
 use cipher::{Mode, WordCipher};
 use refusal::Refusal;

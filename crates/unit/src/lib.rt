@@ -1,4 +1,6 @@
 // The unit: it holds a cipher and a memory of any kind, takes keys and images, and fetches instructions.
+#![tactic(auto)]
+
 pub mod calls;
 mod checks;
 pub mod core;

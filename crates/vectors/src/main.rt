@@ -1,4 +1,6 @@
 // Decrypts the published test vectors of both ChiLow ciphers and prints every state beside the published one.
+#![tactic(auto)]
+
 mod published;
 mod words;
 

@@ -1,4 +1,6 @@
 // One task from shore to ship and back, with both ChiLow ciphers, over a memory of three chips.
+#![tactic(auto)]
+
 mod ashore;
 mod board;
 mod listed;

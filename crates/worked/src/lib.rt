@@ -1,4 +1,6 @@
 // Worked values, proved of the definitions and of the code.
+#![tactic(auto)]
+
 ghost use Rattle.std.specs.Prelude.{◌≡◌};
 ghost use Rattle.worked.specs.Examples.{Worked, published, defined};
 
