@@ -89,14 +89,14 @@ pub fn round_trip<C: WordCipher>(cipher: &C, tweak: u64, instruction: u32) -> Op
 }
 
 fn read_back<C: WordCipher>(cipher: &C, tweak: u64, instruction: u32) -> Option<u32>
-    ensures { result ≡ decrypted (rule cipher.now (key_of cipher.now) (mode_of cipher.now) (tag_of cipher.now) tweak) (rule cipher.now (key_of cipher.now) (mode_of cipher.now) (tag_of cipher.now) tweak instruction) }
+    ensures { result ≡ decrypted (C.rule cipher.now (C.key_of cipher.now) (C.mode_of cipher.now) (C.tag_of cipher.now) tweak) (C.rule cipher.now (C.key_of cipher.now) (C.mode_of cipher.now) (C.tag_of cipher.now) tweak instruction) }
 {
     cipher.decrypt(tweak, cipher.encrypt(tweak, instruction))
 }
 
 /// Whether a stored number is the encryption of what it decrypts to: it is, unless it is rejected.
 pub fn genuine<C: WordCipher>(cipher: &C, tweak: u64, stored: u64) -> bool
-    ensures decrypts { result ≡ is_some (decrypted (rule cipher.now (key_of cipher.now) (mode_of cipher.now) (tag_of cipher.now) tweak) stored) }
+    ensures decrypts { result ≡ is_some (decrypted (C.rule cipher.now (C.key_of cipher.now) (C.mode_of cipher.now) (C.tag_of cipher.now) tweak) stored) }
     ensures fixed { LawsFixDecryption }
 {
     match cipher.decrypt(tweak, stored) {
@@ -106,7 +106,7 @@ pub fn genuine<C: WordCipher>(cipher: &C, tweak: u64, stored: u64) -> bool
 }
 
 fn encrypts_to<C: WordCipher>(cipher: &C, tweak: u64, instruction: u32, stored: u64) -> bool
-    ensures { result ≡ (rule cipher.now (key_of cipher.now) (mode_of cipher.now) (tag_of cipher.now) tweak instruction == stored) }
+    ensures { result ≡ (C.rule cipher.now (C.key_of cipher.now) (C.mode_of cipher.now) (C.tag_of cipher.now) tweak instruction == stored) }
 {
     cipher.encrypt(tweak, instruction) == stored
 }

@@ -9,7 +9,7 @@ returns-in-Some g c =
     let e : ℕ → ℕ = w.rule x (w.key_of x) (w.mode_of x) (w.tag_of x) c.args.tweak in
     let d = sym c.decrypt.ensures ∙ c.in-Some.is in
     record {
-      decrypts = c.encrypts-to.ensures ∙ eq-eqb (e c.in-Some.instruction) c.args.stored (decrypted_is e c.args.stored c.in-Some.instruction d).1 ∙ sym (ap is_some d);
+      decrypts = c.encrypts_to.ensures ∙ eq-eqb (e c.in-Some.instruction) c.args.stored (decrypted_is e c.args.stored c.in-Some.instruction d).1 ∙ sym (ap is_some d);
       fixed = laws_fix_decryption;
     }
 

@@ -6,4 +6,4 @@ returns g c =
     let w = g.C.WordCipher in
     let x = c.args.cipher.now in
     let laws = g.met.C.WordCipher.lawful x (w.key_of x) c.args.tweak (g.met.C.WordCipher.keyed x) (omega arith) in
-    c.read-back.ensures ∙ laws.first c.args.instruction (omega arith)
+    c.read_back.ensures ∙ laws.first c.args.instruction (omega arith)

@@ -4,14 +4,14 @@ use Rattle.bits.proofs.Numbers.{number_more, number_below, number_all}
 use Rattle.linear.specs.Linear.{linear_bit, linear}
 use Rattle.linear.proofs.circulant.Goals as goal
 
-pub with-bit-r-requires : goal.with-bit-r-requires
-with-bit-r-requires c =
+pub with_bit-r-requires : goal.with_bit-r-requires
+with_bit-r-requires c =
     (omega arith, number_below c.loop-i.i (linear_bit c.args.n c.args.a c.args.offsets.now (bit c.args.x)) c.loop-i.r c.loop-i.invariant)
 
 pub loop-i-preserved : goal.loop-i-preserved
 loop-i-preserved c =
-    number_more c.loop-i.i (linear_bit c.args.n c.args.a c.args.offsets.now (bit c.args.x)) c.loop-i.r c.with-bit-r.result c.linear-bit.result
-    c.loop-i.invariant c.linear-bit.ensures c.with-bit-r.ensures
+    number_more c.loop-i.i (linear_bit c.args.n c.args.a c.args.offsets.now (bit c.args.x)) c.loop-i.r c.with_bit-r.result c.linear_bit.result
+    c.loop-i.invariant c.linear_bit.ensures c.with_bit-r.ensures
 
 pub returns : goal.returns
 unfolding linear

@@ -5,6 +5,6 @@ use Rattle.bits.proofs.field.read_field.Goals as goal
 
 pub returns : goal.returns
 returns c =
-    let is : c.read-bits.result ≡ field c.args.bytes.now c.args.offset (min c.args.width 64) =
-    c.read-bits.ensures ∙ ap (field c.args.bytes.now c.args.offset) c.min.ensures in
+    let is : c.read_bits.result ≡ field c.args.bytes.now c.args.offset (min c.args.width 64) =
+    c.read_bits.ensures ∙ ap (field c.args.bytes.now c.args.offset) c.min.ensures in
     record { is = is; fits = subst (λ (z : ℕ). z < 2 ^ min c.args.width 64) (sym is) (field_lt c.args.bytes.now c.args.offset (min c.args.width 64)) }

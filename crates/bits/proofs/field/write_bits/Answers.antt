@@ -11,9 +11,9 @@ loop-done-preserved c =
     let o : ℕ = c.args.offset in
     let d : ℕ = c.loop-done.done in (
       omega arith,
-      write_step c.args.bytes.now c.loop-done.bytes c.write-byte.new.bytes o d c.args.width c.chunk-n.result c.args.value
+      write_step c.args.bytes.now c.loop-done.bytes c.write_byte.new.bytes o d c.args.width c.chunk-n.result c.args.value
           c.chunk-n.ensures.1.1 (omega arith) c.loop-done.invariant.1
-          (subst (λ (v : ℕ). Written c.loop-done.bytes c.write-byte.new.bytes ((o / 8 + (o % 8 + d) / 8) * 8 + (o % 8 + d) % 8) c.chunk-n.result v) c.next-bits-new.ensures c.write-byte.ensures),
+          (subst (λ (v : ℕ). Written c.loop-done.bytes c.write_byte.new.bytes ((o / 8 + (o % 8 + d) / 8) * 8 + (o % 8 + d) % 8) c.chunk-n.result v) c.next_bits-new.ensures c.write_byte.ensures),
     )
 
 pub returns : goal.returns

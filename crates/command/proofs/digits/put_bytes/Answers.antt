@@ -11,11 +11,11 @@ loop-index-preserved c =
     let i = c.loop-index.index in
     let b = c.loop-index.buffer in
     let word = c.args.word.now in
-    let v = c.byte-of.result in
+    let v = c.byte_of.result in
     let inside : i < length b = omega (arith, c.loop-index.auto.buffer, c.loop-index-test.true, c.requires) in (
       ap (λ (k : ℕ). take k (set b i v)) (add-one i) ∙ take-suc-set b i v inside
           ∙ ap (λ (xs : List ℕ). xs ++ (v ∷ [])) c.loop-index.invariant.0
-          ∙ ap (λ (w : ℕ). bytes_up_to word i ++ (w ∷ [])) c.byte-of.ensures
+          ∙ ap (λ (w : ℕ). bytes_up_to word i ++ (w ∷ [])) c.byte_of.ensures
           ∙ sym (bytes_more word i),
       spared_more b c.args.buffer.now i v c.loop-index.invariant.1,
     )

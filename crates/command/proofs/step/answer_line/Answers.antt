@@ -7,8 +7,8 @@ returns g c =
     let C = g.C.WordCipher in
     let M = g.M.Memory in
     record {
-      did = c.do-line.ensures.did;
-      life = lasts C.rule C.mode_of C.tag_of C.key_of M.held c.args.unit.now c.do-line.new.unit (meaning c.args.line.now) c.do-line.result c.do-line.ensures.did;
+      did = c.do_line.ensures.did;
+      life = lasts C.rule C.mode_of C.tag_of C.key_of M.held c.args.unit.now c.do_line.new.unit (meaning c.args.line.now) c.do_line.result c.do_line.ensures.did;
       sessions = sessions_last C.rule C.mode_of C.tag_of C.key_of M.held;
-      rest = c.do-line.ensures.rest;
+      rest = c.do_line.ensures.rest;
     }

@@ -4,20 +4,20 @@ use Rattle.bits.proofs.Numbers.{number_more, number_below, number_all}
 use Rattle.layers.specs.ChiChi.{chi_bit, chichi}
 use Rattle.layers.proofs.nonlinear.chi_chi.Goals as goal
 
-pub add-bit-r-requires : goal.add-bit-r-requires
-add-bit-r-requires c =
+pub add_bit-r-requires : goal.add_bit-r-requires
+add_bit-r-requires c =
     let i : ℕ = c.loop-i.i in
     let f : ℕ → Bool = chi_bit c.half-m.result (bit c.args.x) in
-    let s : ℕ = c.loop-i.r + digit c.chi-bit.result * 2 ^ i in
-    let a : s < 2 ^ (i + 1) = number_below (i + 1) f s (number_more i f c.loop-i.r s c.chi-bit.result c.loop-i.invariant c.chi-bit.ensures refl) in
+    let s : ℕ = c.loop-i.r + digit c.chi_bit.result * 2 ^ i in
+    let a : s < 2 ^ (i + 1) = number_below (i + 1) f s (number_more i f c.loop-i.r s c.chi_bit.result c.loop-i.invariant c.chi_bit.ensures refl) in
     let l : i + 1 ≤ 128 = omega arith in
     let p : 2 ^ (i + 1) ≤ 2 ^ 128 = pow_mono l in
     (omega arith, omega arith)
 
 pub loop-i-preserved : goal.loop-i-preserved
 loop-i-preserved c =
-    number_more c.loop-i.i (chi_bit c.half-m.result (bit c.args.x)) c.loop-i.r c.add-bit-r.result c.chi-bit.result
-    c.loop-i.invariant c.chi-bit.ensures c.add-bit-r.ensures
+    number_more c.loop-i.i (chi_bit c.half-m.result (bit c.args.x)) c.loop-i.r c.add_bit-r.result c.chi_bit.result
+    c.loop-i.invariant c.chi_bit.ensures c.add_bit-r.ensures
 
 pub returns : goal.returns
 unfolding chichi

@@ -15,9 +15,9 @@ returns c =
     let k = c.half-m.ensures in
     let even : m % 2 ≡ 0 = subst (λ (z : ℕ). z % 2 ≡ 0) k.is k.even in
     let above : 2 < m = subst (λ (z : ℕ). 2 < z) k.is k.above in
-    let is : c.state-from.result ≡ chichi⁻¹ m y =
-    c.state-from.ensures
-    ∙ ap (λ (p : Pair). number (c.half-m.result + c.half-m.result) (state_bit c.half-m.result (bit y) p)) c.fixed-pair-a.ensures
+    let is : c.state_from.result ≡ chichi⁻¹ m y =
+    c.state_from.ensures
+    ∙ ap (λ (p : Pair). number (c.half-m.result + c.half-m.result) (state_bit c.half-m.result (bit y) p)) c.fixed_pair-a.ensures
     ∙ ap (λ (z : ℕ). chichi⁻¹ z y) k.is in
     record {
       is = is;

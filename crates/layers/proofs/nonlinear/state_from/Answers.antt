@@ -6,8 +6,8 @@ use Rattle.layers.proofs.Walks.{walk_more}
 use Rattle.layers.proofs.Downward.{down, room, high_bit, low_bit, middle_more, middle_room}
 use Rattle.layers.proofs.nonlinear.state_from.Goals as goal
 
-pub add-bit-r-requires : goal.add-bit-r-requires
-add-bit-r-requires c =
+pub add_bit-r-requires : goal.add_bit-r-requires
+add_bit-r-requires c =
     let y : ℕ → Bool = bit c.args.y in
     let s : Pair = (c.args.a, c.args.b) in (
       omega arith,
@@ -29,11 +29,11 @@ loop-i-preserved c =
           (omega arith) c.loop-i.invariant.3
           (high_bit c.args.m (omega arith) y s c.loop-i.i c.crossing-v.result (c.loop-i.p, c.loop-i.q) c.gate-t.result
           (omega arith) (omega arith) c.crossing-v.ensures c.loop-i.invariant.2 (cc))
-          c.add-bit-r.result c.add-bit-r.ensures,
+          c.add_bit-r.result c.add_bit-r.ensures,
     )
 
-pub add-middle-r-requires : goal.add-middle-r-requires
-add-middle-r-requires c = (
+pub add_middle-r-requires : goal.add_middle-r-requires
+add_middle-r-requires c = (
   omega arith,
   (
     omega arith,
@@ -47,12 +47,12 @@ loop-j-init c =
     let z : 0 ≡ c.args.m - 3 - (c.args.m - 3) = omega arith in (
       omega arith,
       ap (λ (k : ℕ). walk (bit c.args.y) (c.args.m - 3) k (c.args.a, c.args.b)) z,
-      middle_more c.args.m (omega arith) (bit c.args.y) (c.args.a, c.args.b) c.loop-i.i c.loop-i.r c.add-middle-r.result c.crossing-v.result
-          (omega arith) c.loop-i.invariant.3 c.crossing-v.ensures c.add-middle-r.ensures,
+      middle_more c.args.m (omega arith) (bit c.args.y) (c.args.a, c.args.b) c.loop-i.i c.loop-i.r c.add_middle-r.result c.crossing-v.result
+          (omega arith) c.loop-i.invariant.3 c.crossing-v.ensures c.add_middle-r.ensures,
     )
 
-pub add-bit-r-requires-in-loop-j : goal.add-bit-r-requires-in-loop-j
-add-bit-r-requires-in-loop-j c =
+pub add_bit-r-requires-in-loop-j : goal.add_bit-r-requires-in-loop-j
+add_bit-r-requires-in-loop-j c =
     let y : ℕ → Bool = bit c.args.y in
     let s : Pair = (c.args.a, c.args.b) in (
       omega arith,
@@ -73,5 +73,5 @@ loop-j-preserved c =
           (omega arith) c.loop-j.invariant.2
           (low_bit c.args.m (omega arith) y s c.loop-j.j (c.loop-j.p, c.loop-j.q) c.gate-t-in-loop-j.result
           (omega arith) (omega arith) c.loop-j.invariant.1 (cc))
-          c.add-bit-r-in-loop-j.result c.add-bit-r-in-loop-j.ensures,
+          c.add_bit-r-in-loop-j.result c.add_bit-r-in-loop-j.ensures,
     )

@@ -8,12 +8,12 @@ use Rattle.page.proofs.check.check_records.Goals as goal
 pub loop-index-init : goal.loop-index-init
 loop-index-init g c = try_first _ c.args.first c.args.length
 
-pub returns-in-default : goal.returns-in-default
-returns-in-default g c =
+pub returns-in_default : goal.returns-in_default
+returns-in_default g c =
     let w = g.C.WordCipher in
     let a = c.args in
     let opens = opened (keyed_by w.rule w.mode_of w.tag_of w.key_of a.cipher.now) a.image.now (head_of a.header.now) in
-    try_here opens a.first a.length c.loop-index.index (omega (arith, c.loop-index-test.true)) c.loop-index.invariant c.in-default.ensures
+    try_here opens a.first a.length c.loop-index.index (omega (arith, c.loop-index-test.true)) c.loop-index.invariant c.in_default.ensures
 
 pub loop-index-preserved : goal.loop-index-preserved
 loop-index-preserved g c =

@@ -12,7 +12,7 @@ loop-place-preserved g c =
     let a = c.args in
     let f = word_at (keyed_by w.rule w.mode_of w.tag_of w.key_of a.cipher.now) a.image.now (head_of a.header.now) a.first in (
       simp length-set c.loop-place.invariant.0,
-      one_more f c.loop-place.words c.loop-place.place _ (omega (arith, c.loop-place.invariant.0)) c.word-at.ensures c.loop-place.invariant.1,
+      one_more f c.loop-place.words c.loop-place.place _ (omega (arith, c.loop-place.invariant.0)) c.word_at.ensures c.loop-place.invariant.1,
     )
 
 pub returns : goal.returns

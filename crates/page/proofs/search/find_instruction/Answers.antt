@@ -7,7 +7,7 @@ pub returns-then-word-instruction : goal.returns-then-word-instruction
 returns-then-word-instruction g c =
     record {
       answer = (
-        c.in-ok-check-page.ensures.answer,
+        c.in_ok-check_page.ensures.answer,
         found_here c.args.instruction c.new-page.result.words.now c.loop-place.place c.loop-place.invariant c.word.result (omega (arith, c.loop-place-test.true, c.len-place-end.ensures)) c.word.ensures c.if-word-instruction.true
             ∙ ap (place_of c.args.instruction) c.new-page.ensures.words,
       );
@@ -22,7 +22,7 @@ pub returns : goal.returns
 returns g c =
     record {
       answer = (
-        c.in-ok-check-page.ensures.answer,
+        c.in_ok-check_page.ensures.answer,
         found_nowhere c.args.instruction c.new-page.result.words.now c.loop-place.place c.loop-place.invariant (omega (arith, c.loop-place-test.false, c.len-place-end.ensures))
             ∙ ap (place_of c.args.instruction) c.new-page.ensures.words,
       );

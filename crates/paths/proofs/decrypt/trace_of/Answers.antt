@@ -14,15 +14,15 @@ returns c =
     let k : ℕ = c.args.key in
     let t : ℕ = c.args.tweak in
     let x : ℕ = c.args.x in
-    let keys : c.key-schedule-keys.result ≡ key_schedule (cipher_of p) k =
-    c.key-schedule-keys.ensures ∙ ap (λ (v : Mode). key_schedule v k) c.cipher-of-cipher.ensures in
-    let tweaks : c.tweak-schedule-tweaks.result ≡ tweak_schedule (key_schedule (cipher_of p) k) t =
-    c.tweak-schedule-tweaks.ensures ∙ ap (λ (s : KeySchedule). tweak_schedule s t) keys in
+    let keys : c.key_schedule-keys.result ≡ key_schedule (cipher_of p) k =
+    c.key_schedule-keys.ensures ∙ ap (λ (v : Mode). key_schedule v k) c.cipher_of-cipher.ensures in
+    let tweaks : c.tweak_schedule-tweaks.result ≡ tweak_schedule (key_schedule (cipher_of p) k) t =
+    c.tweak_schedule-tweaks.ensures ∙ ap (λ (s : KeySchedule). tweak_schedule s t) keys in
     let block =
-    c.data-states.ensures
+    c.data_states.ensures
     ∙ ap₂ (λ (w : ℕ) (s : TweakSchedule). table 9 (data_after p (λ i. get_or s.masks i 0) (x ⊻ w)))
-    (c.whitening-word.ensures ∙ ap (λ (s : KeySchedule). word_of s p) keys) tweaks
+    (c.whitening_word.ensures ∙ ap (λ (s : KeySchedule). word_of s p) keys) tweaks
     ∙ block_rows p k t x in
     let tweak = ap (λ (s : TweakSchedule). s.states) tweaks ∙ tweak_rows p k t x in
-    let key = c.key-states.ensures ∙ ap (λ (v : Mode). table 9 (key_after v k)) c.cipher-of-cipher.ensures ∙ key_rows p k t x in
+    let key = c.key_states.ensures ∙ ap (λ (v : Mode). table 9 (key_after v k)) c.cipher_of-cipher.ensures ∙ key_rows p k t x in
     λ z. record { block = block z; tweak = tweak z; key = key z }

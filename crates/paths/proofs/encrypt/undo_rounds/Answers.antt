@@ -6,8 +6,8 @@ use Rattle.paths.proofs.encrypt.undo_rounds.Goals as goal
 pub loop-i-preserved : goal.loop-i-preserved
 loop-i-preserved c = (
   omega arith,
-  before_more c.args.mode (λ (k : ℕ). get_or c.args.masks.now k 0) c.loop-i.i c.loop-i.state c.undo-round-state.result
-      (omega arith) c.undo-round-state.ensures ∙ c.loop-i.invariant.1,
+  before_more c.args.mode (λ (k : ℕ). get_or c.args.masks.now k 0) c.loop-i.i c.loop-i.state c.undo_round-state.result
+      (omega arith) c.undo_round-state.ensures ∙ c.loop-i.invariant.1,
 )
 
 pub returns : goal.returns

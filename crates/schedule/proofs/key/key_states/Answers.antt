@@ -10,8 +10,8 @@ loop-i-init c = filled_first (key_after c.args.mode c.args.key) 8 c.args.key ref
 pub loop-i-preserved : goal.loop-i-preserved
 unfolding key_after
 loop-i-preserved c =
-    filled_next (key_after c.args.mode c.args.key) 9 c.loop-i.states c.loop-i.i c.key-step.result (omega arith)
-    (c.key-step.ensures
+    filled_next (key_after c.args.mode c.args.key) 9 c.loop-i.states c.loop-i.i c.key_step.result (omega arith)
+    (c.key_step.ensures
     ∙ ap (λ (s : ℕ). cond (inner c.loop-i.i) (key_round c.args.mode c.loop-i.i s) s)
     (filled_last (key_after c.args.mode c.args.key) 9 c.loop-i.states c.loop-i.i c.loop-i.invariant))
     c.loop-i.invariant

@@ -18,10 +18,10 @@ loop-i-preserved c =
     let ws : ℕ → ℕ = λ (k : ℕ). get_or c.args.keys.now.rounds k 0 in
     let f : ℕ → ℕ = tweak_after w ws c.args.tweak in
     let last : get_or c.loop-i.states i 0 ≡ f i = filled_last f 9 c.loop-i.states i c.loop-i.invariant.0 in (
-      filled_next f 9 c.loop-i.states i c.tweak-round-turn.result.next (omega arith)
-          (c.tweak-round-turn.ensures.next ∙ ap (λ (u : ℕ). tweak_round i u (ws i)) last) c.loop-i.invariant.0,
-      filled_more (tweak_mask w ws c.args.tweak) 8 c.loop-i.masks i c.tweak-round-turn.result.mask (omega arith)
-          (c.tweak-round-turn.ensures.mask ∙ ap (mask i) last) c.loop-i.invariant.1,
+      filled_next f 9 c.loop-i.states i c.tweak_round-turn.result.next (omega arith)
+          (c.tweak_round-turn.ensures.next ∙ ap (λ (u : ℕ). tweak_round i u (ws i)) last) c.loop-i.invariant.0,
+      filled_more (tweak_mask w ws c.args.tweak) 8 c.loop-i.masks i c.tweak_round-turn.result.mask (omega arith)
+          (c.tweak_round-turn.ensures.mask ∙ ap (mask i) last) c.loop-i.invariant.1,
     )
 
 pub returns : goal.returns

@@ -13,9 +13,9 @@ returns g c =
     let b : ℕ = c.args.base in
     let is : List ℕ = c.args.instructions.now in
     let before : List ℕ = c.args.buffer.now in
-    let after : List ℕ = c.draft-all.new.buffer in
-    let r = c.draft-all.result in
-    let e = c.draft-all.ensures in
+    let after : List ℕ = c.draft_all.new.buffer in
+    let r = c.draft_all.result in
+    let e = c.draft_all.ensures in
     let words : (i : ℕ) → i < length is → get_or is i 0 < 2 ^ 32 = λ i _. omega (arith, c.type-inv.instructions i) in
     let small : (i : ℕ) → get_or after i 0 < 256 = λ i. omega (arith, c.type-inv.buffer i) in
     record {

@@ -7,11 +7,11 @@ use Rattle.shore.proofs.write.write_header.Goals as goal
 pub returns : goal.returns
 returns c =
     let h = c.args.header.now in
-    head_written (head_of h) (header_proper h) c.args.buffer.now c.write-field.new.bytes c.write-field-2.new.bytes c.write-field-3.new.bytes
-    c.write-field-4.new.bytes c.write-field-5.new.bytes c.write-field-6.new.bytes
-    c.write-field.ensures.written
-    (written_as _ _ 2 1 c.number.result _ (c.number.ensures ∙ ap mode_number c.mode.ensures) c.write-field-2.ensures.written)
-    (written_as _ _ 3 5 c.tag-length.result _ c.tag-length.ensures c.write-field-3.ensures.written)
-    (written_as _ _ 8 8 c.version.result _ c.version.ensures c.write-field-4.ensures.written)
-    (written_as _ _ 16 30 c.base.result _ c.base.ensures c.write-field-5.ensures.written)
-    (written_as _ _ 46 20 c.count.result _ c.count.ensures c.write-field-6.ensures.written)
+    head_written (head_of h) (header_proper h) c.args.buffer.now c.write_field.new.bytes c.write_field-2.new.bytes c.write_field-3.new.bytes
+    c.write_field-4.new.bytes c.write_field-5.new.bytes c.write_field-6.new.bytes
+    c.write_field.ensures.written
+    (written_as _ _ 2 1 c.number.result _ (c.number.ensures ∙ ap mode_number c.mode.ensures) c.write_field-2.ensures.written)
+    (written_as _ _ 3 5 c.tag_length.result _ c.tag_length.ensures c.write_field-3.ensures.written)
+    (written_as _ _ 8 8 c.version.result _ c.version.ensures c.write_field-4.ensures.written)
+    (written_as _ _ 16 30 c.base.result _ c.base.ensures c.write_field-5.ensures.written)
+    (written_as _ _ 46 20 c.count.result _ c.count.ensures c.write_field-6.ensures.written)

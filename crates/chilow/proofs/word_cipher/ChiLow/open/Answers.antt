@@ -10,7 +10,7 @@ use Rattle.chilow.proofs.word_cipher.ChiLow.open.Goals as goal
 pub returns : goal.returns
 returns c =
     let s = c.args.self.now in
-    c.open-by.ensures
+    c.open_by.ensures
     ∙ ap₂ (λ (k : KeySchedule) (t : TweakSchedule). opened_by (λ p x. outcome p k t x) s.mode s.tag_bits c.args.stored)
-    s.scheduled (c.tweak-schedule-tweaks.ensures ∙ ap (λ (k : KeySchedule). tweak_schedule k c.args.tweak) s.scheduled)
+    s.scheduled (c.tweak_schedule-tweaks.ensures ∙ ap (λ (k : KeySchedule). tweak_schedule k c.args.tweak) s.scheduled)
     ∙ opened_by_lem s.mode s.key s.tag_bits c.args.tweak c.args.stored

@@ -12,10 +12,10 @@ pub returns : goal.returns
 returns c =
     let s = c.args.self.now in
     let laws = opened_laws s.key s.mode s.tag_bits c.args.tweak s.fits in
-    let is : c.store-by.result ≡ chilow s.key s.mode s.tag_bits c.args.tweak c.args.instruction =
-    c.store-by.ensures
+    let is : c.store_by.result ≡ chilow s.key s.mode s.tag_bits c.args.tweak c.args.instruction =
+    c.store_by.ensures
     ∙ ap₂ (λ (k : KeySchedule) (t : TweakSchedule). stored_by (source s.mode k t) (λ p x. outcome p k t x) s.mode s.tag_bits c.args.instruction)
-    s.scheduled (c.tweak-schedule-tweaks.ensures ∙ ap (λ (k : KeySchedule). tweak_schedule k c.args.tweak) s.scheduled)
+    s.scheduled (c.tweak_schedule-tweaks.ensures ∙ ap (λ (k : KeySchedule). tweak_schedule k c.args.tweak) s.scheduled)
     ∙ stored_by_lem s.mode s.key s.tag_bits c.args.tweak c.args.instruction in
     record {
       is = is;

@@ -7,12 +7,12 @@ use Rattle.chips.proofs.paired.PairedMemory.write.Goals as goal
 
 pub bounds-self-word : goal.bounds-self-word
 bounds-self-word c =
-    let w = write_in c.slots.result c.args.slot c.args.number _ c.in-ok-check-write.ensures in
+    let w = write_in c.slots.result c.args.slot c.args.number _ c.in_ok-check_write.ensures in
     omega (arith, w.0, length-paired c.args.self.now.high.now c.args.self.now.low.now)
 
 pub bounds-self-word-2 : goal.bounds-self-word-2
 bounds-self-word-2 c =
-    let w = write_in c.slots.result c.args.slot c.args.number _ c.in-ok-check-write.ensures in
+    let w = write_in c.slots.result c.args.slot c.args.number _ c.in_ok-check_write.ensures in
     omega (arith, w.0, length-paired c.args.self.now.high.now c.args.self.now.low.now)
 
 pub returns : goal.returns
@@ -22,9 +22,9 @@ returns c =
     let n = c.args.number in
     let high = self.high.now in
     let low = self.low.now in
-    let x = c.high-word.result in
-    let y = c.low-word.result in
-    let w = write_in c.slots.result s n _ c.in-ok-check-write.ensures in
+    let x = c.high_word.result in
+    let y = c.low_word.result in
+    let w = write_in c.slots.result s n _ c.in_ok-check_write.ensures in
     let l : s < length (paired high low) = omega (arith, w.0) in
     record {
       answer = ok_is (paired high low) s n l w.1;

@@ -7,6 +7,6 @@ pub returns : goal.returns
 returns g c =
     let a = g.E.Memory.held c.args.self.now.even in
     let b = g.O.Memory.held c.args.self.now.odd in
-    let l = slot_in_lem c.slots.result c.args.slot _ c.in-ok-check-slot.ensures in
-    interleaved_read a b c.args.slot c.interleaved-place.result c.read-at.result
-    c.read-at.ensures c.interleaved-place.ensures (omega arith)
+    let l = slot_in_lem c.slots.result c.args.slot _ c.in_ok-check_slot.ensures in
+    interleaved_read a b c.args.slot c.interleaved_place.result c.read_at.result
+    c.read_at.ensures c.interleaved_place.ensures (omega arith)

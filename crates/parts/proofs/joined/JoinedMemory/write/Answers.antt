@@ -8,18 +8,18 @@ pub returns : goal.returns
 returns g c =
     let first = c.args.self.now.first in
     let second = c.args.self.now.second in
-    let first' = c.write-at.new.first in
-    let second' = c.write-at.new.second in
+    let first' = c.write_at.new.first in
+    let second' = c.write_at.new.second in
     let F = g.F.Memory in
     let S = g.S.Memory in
     let s = c.args.slot in
     let n = c.args.number in
-    let ens = c.write-at.ensures in
-    let w = write_in c.slots.result s n _ c.in-ok-check-write.ensures in
+    let ens = c.write_at.ensures in
+    let w = write_in c.slots.result s n _ c.in_ok-check_write.ensures in
     let l : s < length (joined (F.held first) (S.held second)) = omega (arith, w.0) in
     let p =
     joined_write (F.held first) (S.held second) (F.held first') (S.held second')
-    (F.rest first) (S.rest second) (F.rest first') (S.rest second') c.slots-2.result s n c.joined-place-place.result
-    ens.first ens.second ens.kept-first ens.kept_second c.joined-place-place.ensures c.slots-2.ensures
+    (F.rest first) (S.rest second) (F.rest first') (S.rest second') c.slots-2.result s n c.joined_place-place.result
+    ens.first ens.second ens.kept_first ens.kept_second c.joined_place-place.ensures c.slots-2.ensures
     (F.sound first).few l w.1 in
     record { answer = ok_is (joined (F.held first) (S.held second)) s n l w.1; after = p.after; kept = p.kept }
