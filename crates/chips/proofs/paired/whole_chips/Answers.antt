@@ -5,8 +5,8 @@ use Rattle.chips.proofs.paired.whole_chips.Goals as goal
 pub returns : goal.returns
 returns c =
     record {
-      same-high = search rules;
+      same_high = search rules;
       same_low = search rules;
-      whole-high = high_whole _ _ (λ i. omega (arith, c.type-inv.high i));
-      whole-low = low_whole _ _ (λ i. omega (arith, c.type-inv.low i));
+      whole_high = high_whole _ _ (λ i. omega (arith, c.type_inv.high i));
+      whole_low = low_whole _ _ (λ i. omega (arith, c.type_inv.low i));
     }

@@ -10,7 +10,7 @@ returns-in-Ok g c =
     let k : KeyedCipher = keyed_by w.rule w.mode_of w.tag_of w.key_of x in
     record {
       answer = c.in-Ok.ensures.0;
-      made = refused_only_past_end k (g.met.C.WordCipher.fitting x) (g.met.C.WordCipher.lawful x) (g.met.C.WordCipher.keyed x) c.args.image.now (λ i. omega (arith, c.type-inv.image i))
+      made = refused_only_past_end k (g.met.C.WordCipher.fitting x) (g.met.C.WordCipher.lawful x) (g.met.C.WordCipher.keyed x) c.args.image.now (λ i. omega (arith, c.type_inv.image i))
           c.args.first c.args.length;
     }
 
@@ -21,6 +21,6 @@ returns-in-Err g c =
     let k : KeyedCipher = keyed_by w.rule w.mode_of w.tag_of w.key_of x in
     record {
       answer = c.in-Err.ensures;
-      made = refused_only_past_end k (g.met.C.WordCipher.fitting x) (g.met.C.WordCipher.lawful x) (g.met.C.WordCipher.keyed x) c.args.image.now (λ i. omega (arith, c.type-inv.image i))
+      made = refused_only_past_end k (g.met.C.WordCipher.fitting x) (g.met.C.WordCipher.lawful x) (g.met.C.WordCipher.keyed x) c.args.image.now (λ i. omega (arith, c.type_inv.image i))
           c.args.first c.args.length;
     }

@@ -16,8 +16,8 @@ returns g c =
     let after : List ℕ = c.draft_all.new.buffer in
     let r = c.draft_all.result in
     let e = c.draft_all.ensures in
-    let words : (i : ℕ) → i < length is → get_or is i 0 < 2 ^ 32 = λ i _. omega (arith, c.type-inv.instructions i) in
-    let small : (i : ℕ) → get_or after i 0 < 256 = λ i. omega (arith, c.type-inv.buffer i) in
+    let words : (i : ℕ) → i < length is → get_or is i 0 < 2 ^ 32 = λ i _. omega (arith, c.type_inv.instructions i) in
+    let small : (i : ℕ) → get_or after i 0 < 256 = λ i. omega (arith, c.type_inv.buffer i) in
     record {
       answer = MatchResult-weaker r e (λ d h. chain_tells k v b is before after d h) (λ d h. h);
       made = made_from r _ _ _ e (λ d h. chain_made k v b is before after d h words);

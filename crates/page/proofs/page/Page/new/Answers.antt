@@ -12,6 +12,6 @@ returns g c =
       words = c.fill.ensures;
       lent = refl;
       opens = shows_decryptions k c.args.image.now c.args.first c.fill.new.words c.args.words.now c.fill.auto.words c.fill.ensures;
-      made = shows_what_was_put_in k (g.met.C.WordCipher.fitting x) (g.met.C.WordCipher.lawful x) (g.met.C.WordCipher.keyed x) c.args.image.now (λ i. omega (arith, c.type-inv.image i))
+      made = shows_what_was_put_in k (g.met.C.WordCipher.fitting x) (g.met.C.WordCipher.lawful x) (g.met.C.WordCipher.keyed x) c.args.image.now (λ i. omega (arith, c.type_inv.image i))
           c.args.first c.fill.new.words c.args.words.now c.fill.auto.words c.fill.ensures;
     }
