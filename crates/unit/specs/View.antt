@@ -3,7 +3,7 @@ use Rattle.std.specs.Prelude.{ℕ, List, length}
 use Rattle.life.specs.declared.Status.{Status}
 use Rattle.cipher.specs.declared.Mode.{Mode}
 use Rattle.cipher.specs.Word.{Rule}
-use Rattle.unit.specs.declared.core.Core.{Core}
+use Rattle.unit.specs.declared.unit_core.Core.{Core}
 use Rattle.unit.specs.declared.unit.Unit.{Unit}
 use Rattle.life.specs.Coding.{Suite}
 use Rattle.life.specs.State.{CoreState, State, Did, strikes_left_of}

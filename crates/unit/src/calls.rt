@@ -6,8 +6,8 @@ ghost use Rattle.life.specs.Life.{Agrees};
 ghost use Rattle.life.specs.State.{fresh};
 ghost use Rattle.unit.specs.View.{suite_of, state_of, status_of, Does, Lives};
 
-use crate::core::Core;
 use crate::unit::Unit;
+use crate::unit_core::Core;
 use cipher::WordCipher;
 use life::{Answer, Call, Condition, Status};
 use memory::Memory;

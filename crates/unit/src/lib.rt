@@ -3,9 +3,9 @@
 
 pub mod calls;
 mod checks;
-pub mod core;
 mod decide;
 mod program;
 pub mod run;
 mod slots;
 pub mod unit;
+pub mod unit_core;

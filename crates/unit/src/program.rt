@@ -12,7 +12,7 @@ ghost use Rattle.life.specs.State.{unkeyed, program_by, struck, core_after, plac
 ghost use Rattle.unit.specs.View.{core_of, suite_of};
 
 use crate::checks::open_at;
-use crate::core::Core;
+use crate::unit_core::Core;
 use cipher::WordCipher;
 use image::header::Header;
 use life::Condition;

@@ -1,11 +1,9 @@
 // The unit.
-use crate::core::Core;
-use cipher::WordCipher;
-use memory::Memory;
+use crate::unit_core::Core;
 
 /// A unit: a cipher with its condition and program, over a memory.
 #[derive(Drop)]
-pub struct Unit<C: WordCipher, M: Memory> {
+pub struct Unit<C, M> {
     pub(crate) core: Core<C>,
     pub(crate) memory: M,
 }

@@ -2,12 +2,11 @@
 ghost use Rattle.std.specs.Prelude.{◌≡◌, ◌+◌, ◌^◌, ◌≤◌};
 ghost use Rattle.life.specs.declared.Condition.TheVariants.{Live};
 
-use cipher::WordCipher;
 use life::Condition;
 
 /// A cipher, its condition and strikes, and the program installed under it.
 #[derive(Drop)]
-pub struct Core<C: WordCipher> {
+pub struct Core<C> {
     pub(crate) cipher: C,
     pub(crate) condition: Condition,
     pub(crate) strikes: u32,
