@@ -128,4 +128,4 @@ round_lt p i x m = xor_lt (size (width_of p)) _ _ (by (inner i)) (part_lt m _ (s
 
 pub outcome_lt : (p : Path) (keys : KeySchedule) (tweaks : TweakSchedule) (x : ℕ) → outcome p keys tweaks x < 2 ^ size (width_of p)
 unfolding outcome data_after
-outcome_lt p keys tweaks x = round_lt p 7 _ _
+outcome_lt p _ _ x = round_lt p 7 _ _
