@@ -1,7 +1,7 @@
 -- The numbers and the bytes of words.
-use Rattle.std.proofs.Common.{◌≡◌, ℕ, zero, suc, ◌+◌, ◌-◌, ◌*◌, ◌^◌, ◌<◌, ◌≤◌, Bool, true, false, cond, ◌&&◌, ◌||◌, List, [], ◌∷◌, ◌++◌, get_or, drop, set, sym, refl, ap, ◌∙◌, pow-suc, add-one, arith, lit<, drop-drop, drop-set-lt}
+use Rattle.std.proofs.Common.{◌≡◌, ℕ, ◌+◌, ◌*◌, ◌^◌, ◌<◌, ◌≤◌, List, [], ◌∷◌, ◌++◌, get_or, drop, set, sym, refl, ap, ◌∙◌, pow-suc, add-one, arith, lit<, drop-drop, drop-set-lt}
 use native.Mathlib.Nat.{pow-le-pow_right}
-use Rattle.command.specs.Digits.{is_digit, digit_of, hex_of, byte_of, bytes_up_to}
+use Rattle.command.specs.Digits.{digit_of, hex_of, byte_of, bytes_up_to}
 
 pub hex_more : (word : List ℕ) (n : ℕ) → hex_of word (n + 1) ≡ 16 * hex_of word n + digit_of (get_or word n 0)
 unfolding hex_of

@@ -1,18 +1,18 @@
 -- A session's history.
-use Rattle.std.proofs.Common.{◌≡◌, ℕ, List, [], ◌∷◌, sym, refl, ap, ◌∙◌, subst}
+use Rattle.std.proofs.Common.{◌≡◌, ℕ, List, [], ◌∷◌, sym, refl, ap, subst}
 use Rattle.cipher.specs.declared.Mode.{Mode}
 use Rattle.cipher.specs.Word.{Rule}
-use Rattle.life.specs.Coding.{Coding, Suite, coding}
+use Rattle.life.specs.Coding.{Coding, coding}
 use Rattle.life.specs.History.{Event, event}
-use Rattle.life.specs.Life.{Law, Agrees}
+use Rattle.life.specs.Life.{Agrees}
 use Rattle.life.specs.declared.Call.{Call}
-use Rattle.life.specs.declared.Call.TheVariants.{Load, Install, Fetch, Overwrite}
+use Rattle.life.specs.declared.Call.TheVariants.{Load, Fetch, Overwrite}
 use Rattle.unit.specs.declared.unit.Unit.{Unit as UnitOf}
-use Rattle.unit.specs.View.{state_of, suite_of, status_of}
+use Rattle.unit.specs.View.{state_of, suite_of}
 use Rattle.command.specs.declared.reply.Reply.{Reply}
 use Rattle.command.specs.Lines.{Meaning, meaning}
 use Rattle.command.specs.Lines.Meaning.{refused, status, load, install, fetch, overwrite}
-use Rattle.command.specs.Sessions.{Performed, Obeys, Once, Shown, Longer, LongerBy, Lasts, Goes, SessionsLast}
+use Rattle.command.specs.Sessions.{Performed, Obeys, Once, LongerBy, Lasts, SessionsLast}
 
 module _ {C M : Type 0} (rule : C → Rule) (mode : C → Mode) (tag key : C → ℕ) (held : M → List ℕ) where
   abbrev coding_of : UnitOf C M → Coding

@@ -1,22 +1,21 @@
 -- Allowed lines and garbled ones.
-use Rattle.std.proofs.Common.{◌≡◌, ℕ, zero, suc, ◌+◌, ◌-◌, ◌%◌, ◌<◌, ◌≤◌, min, Bool, true, false, cond, ◌&&◌, ◌||◌, eqb, ltb, leb, ◌⊎◌, List, [], ◌∷◌, ◌++◌, map, length, get_or, take, Some, None, Option, sym, refl, ap, ◌∙◌, subst, inl, inr, ⊎_elim, arith, length-append, length-take, get_or-take, ltb-false, ltb-true, le-ltb, lt-ltb, eq-eqb, eqb-true, le-leb, leb-true}
+use Rattle.std.proofs.Common.{◌≡◌, ℕ, ◌+◌, ◌-◌, ◌%◌, ◌<◌, ◌≤◌, min, Bool, true, false, cond, ◌&&◌, eqb, ltb, ◌⊎◌, List, [], ◌∷◌, ◌++◌, map, length, get_or, take, Some, None, Option, sym, refl, ap, ◌∙◌, inl, inr, ⊎_elim, arith, length-append, length-take, get_or-take, ltb-false, ltb-true, le-ltb, lt-ltb, eq-eqb, eqb-true, le-leb}
 use borrow.Author.Tests.{both_ways}
 use Rattle.std.specs.List.{range_with_len}
 use Rattle.std.proofs.lemmas.List.FromFn.{get_or-map-range_with_len, length-map-range_with_len}
 use Rattle.std.proofs.lemmas.List.{get_or_append_left, get_or-append_right}
 use Rattle.std.proofs.lemmas.Bool.{cases_lt, cases_Bool}
 use Rattle.std.proofs.lemmas.Bool.Decides.{nat_tests}
-use Rattle.refusal.specs.declared.Refusal.{Refusal}
 use Rattle.refusal.specs.declared.Refusal.TheVariants.{Garbled}
 use Rattle.command.specs.declared.forms.Form.{Form}
 use Rattle.command.specs.declared.forms.Form.TheVariants.{Key, Image, Fetch, Write, Status}
 use Rattle.command.specs.Digits.{is_digit}
-use Rattle.command.specs.Forms.{most, letter_of, form_of, most_of, space_at, allows, complete, first_bad, allows_at, wrong_at, fits}
-use Rattle.command.specs.Lines.{Meaning, meaning, meaning_by, command_of}
+use Rattle.command.specs.Forms.{most, letter_of, form_of, most_of, space_at, allows, complete, allows_at, wrong_at, fits}
+use Rattle.command.specs.Lines.{meaning, meaning_by, command_of}
 use Rattle.command.specs.Lines.Meaning.{refused}
-use Rattle.command.specs.Laws.{Allowed, Begins, Longest, Astray, Fitting, Judged}
+use Rattle.command.specs.Laws.{Allowed, Begins, Astray, Fitting, Judged}
 use Rattle.command.proofs.Spelling.{and_left, and_right, spell, unspell}
-use Rattle.command.proofs.First.{Firstly, first_bad_lem, none_bad}
+use Rattle.command.proofs.First.{first_bad_lem, none_bad}
 
 -- ---- the letter
 letter_form : (f : Form) → form_of (letter_of f) ≡ Some f

@@ -1,5 +1,5 @@
 -- What the allowed lines are, that each means one thing, and where any other line is garbled.
-use Rattle.std.specs.Prelude.{◌≡◌, ℕ, ◌+◌, ◌*◌, ◌<◌, ◌≤◌, true, ◌⊎◌, List, ◌∷◌, ◌++◌, length, take, codes, slice_index}
+use Rattle.std.specs.Prelude.{◌≡◌, ℕ, ◌+◌, ◌*◌, ◌<◌, ◌≤◌, true, ◌⊎◌, List, ◌++◌, length, take, codes, slice_index}
 use Rattle.refusal.specs.declared.Refusal.TheVariants.{Garbled}
 use Rattle.command.specs.declared.forms.Form.{Form}
 use Rattle.command.specs.declared.forms.Form.TheVariants.{Key, Image, Fetch, Write, Status}

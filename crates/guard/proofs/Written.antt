@@ -1,5 +1,5 @@
 -- What follows from ChiLow's encryption rule is the published decryption, for every number.
-use Rattle.std.proofs.Common.{◌≡◌, ℕ, ◌+◌, ◌/◌, ◌%◌, ◌^◌, ◌<◌, ◌≤◌, Bool, true, false, cond, ◌&&◌, eqb, ltb, Some, None, Option, sym, refl, ap, ◌∙◌, ⊎_elim, arith, pow_mono, le-ltb}
+use Rattle.std.proofs.Common.{◌≡◌, ℕ, ◌+◌, ◌^◌, ◌<◌, ◌≤◌, Bool, true, false, cond, ◌&&◌, ltb, Some, None, Option, sym, refl, ap, ◌∙◌, ⊎_elim, arith, pow_mono, le-ltb}
 use Rattle.std.proofs.lemmas.Bool.{cases_lt}
 use Rattle.cipher.specs.declared.Mode.{Mode}
 use Rattle.cipher.specs.declared.Mode.TheVariants.{Tagged, Block}
@@ -8,7 +8,7 @@ use Rattle.cipher.proofs.Fixed.{decrypted_is}
 use Rattle.chilow.specs.Words.{chilow, opened}
 use Rattle.chilow.specs.Sealing.{opened_laws, opened_is}
 use Rattle.image.proofs.Laying.{tag_most}
-use Rattle.life.specs.Coding.{Coding, Suite, coding}
+use Rattle.life.specs.Coding.{coding}
 use Rattle.guard.specs.Published.{published}
 
 shut : (a b : Bool) (x : Option ℕ) → a ≡ false → cond (a && b) x None ≡ None

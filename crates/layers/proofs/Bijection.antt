@@ -1,5 +1,5 @@
 -- ChiChi and its inverse undo each other, at every even m above 2.
-use Rattle.std.proofs.Common.{◌≡◌, ℕ, zero, suc, ◌+◌, ◌-◌, ◌*◌, ◌/◌, ◌%◌, ◌^◌, ◌<◌, Bool, false, sym, refl, ap, ◌∙◌, subst, mod-eq_of_lt, arith}
+use Rattle.std.proofs.Common.{◌≡◌, ℕ, zero, suc, ◌+◌, ◌-◌, ◌*◌, ◌/◌, ◌%◌, ◌^◌, ◌<◌, Bool, false, sym, refl, ap, ◌∙◌, subst, arith}
 use Rattle.bits.specs.Number.{bit}
 use Rattle.bits.proofs.Numbers.{number_lt, number_ext, number_bits, bit-number}
 use Rattle.layers.specs.ChiChi.{chi_bit, chichi}

@@ -1,16 +1,15 @@
 -- The machine's state is what the history says.
-use Rattle.std.proofs.Common.{◌≡◌, ℕ, zero, suc, ◌+◌, ◌-◌, ◌<◌, ◌≤◌, min, Bool, true, false, cond, eqb, ltb, ◌≢◌, List, [], ◌∷◌, ◌++◌, map, length, get_or, drop, set, Some, None, Option, sym, refl, ap, ◌∙◌, subst, ap₂, ⊎_elim, arith, get_or-set_other, get_or-set_same, ltb-false, ltb-true, le-ltb, lt-ltb, eq-eqb, ne_eqb}
+use Rattle.std.proofs.Common.{◌≡◌, ℕ, ◌+◌, ◌-◌, ◌<◌, ◌≤◌, min, Bool, true, false, cond, ltb, List, ◌++◌, map, length, get_or, drop, set, Some, None, Option, sym, refl, ap, ◌∙◌, ap₂, ⊎_elim, arith, get_or-set_other, get_or-set_same, ltb-false, ltb-true, le-ltb, lt-ltb, eq-eqb, ne_eqb}
 use Rattle.std.proofs.lemmas.List.FromFn.{fill_by_all}
 use Rattle.std.proofs.lemmas.List.{length-append, length-drop, length-set, get_or_append_left, get_or-append_right, get_or-drop}
 use Rattle.std.proofs.lemmas.Bool.{cases_eq, cases_lt}
 use Rattle.std.specs.List.{range_with_len}
 use Rattle.image.specs.Reading.{head_in, record_in, records_in}
-use Rattle.life.specs.declared.Condition.{Condition}
-use Rattle.life.specs.declared.Condition.TheVariants.{Unkeyed, Live, Locked}
-use Rattle.life.specs.Checks.{Program, Known, version_of}
+use Rattle.life.specs.declared.Condition.TheVariants.{Live, Locked}
+use Rattle.life.specs.Checks.{version_of}
 use Rattle.life.specs.Deeds.{Deed}
 use Rattle.life.specs.Deeds.Deed.{loaded, installed, overwrote, rejected, nothing}
-use Rattle.life.specs.State.{CoreState, State, live_key, program_by, known_by, struck, after}
+use Rattle.life.specs.State.{State, live_key, program_by, known_by, after}
 use Rattle.life.specs.History.{key_after, rejections_after, image_after, slot_after, live_by, condition_by, cipher_key_by, live_key_by, program_of}
 use Rattle.life.specs.Life.{base_of, count_of}
 use Rattle.life.proofs.Writing.{length_records, record_at_lem}

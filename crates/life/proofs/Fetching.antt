@@ -1,14 +1,14 @@
 -- When the row of checks of a fetch yields an instruction.
-use Rattle.std.proofs.Common.{◌≡◌, ℕ, ◌+◌, ◌-◌, ◌*◌, ◌/◌, ◌%◌, ◌<◌, ◌≤◌, Bool, true, false, cond, ◌&&◌, eqb, ltb, leb, List, get_or, Some, None, Option, sym, refl, ap, ◌∙◌, arith, ltb-true, lt-ltb, eq-eqb, eqb-true, le-leb, leb-true}
+use Rattle.std.proofs.Common.{◌≡◌, ℕ, ◌+◌, ◌-◌, ◌*◌, ◌/◌, ◌%◌, ◌<◌, Bool, true, false, cond, eqb, ltb, leb, get_or, Some, None, Option, refl, ap, ◌∙◌, arith, ltb-true, lt-ltb, eq-eqb, eqb-true, le-leb, leb-true}
 use Rattle.std.proofs.lemmas.Bool.{and_parts, and_from}
 use Rattle.refusal.specs.declared.Refusal.{Refusal}
 use Rattle.refusal.specs.declared.Refusal.TheVariants.{Odd, OffMap}
 use Rattle.life.specs.declared.Answer.{Answer}
-use Rattle.life.specs.declared.Answer.TheVariants.{Done, Instruction, Refused}
+use Rattle.life.specs.declared.Answer.TheVariants.{Instruction, Refused}
 use Rattle.life.specs.declared.Call.TheVariants.{Fetch}
-use Rattle.life.specs.Coding.{Coding, Told, opened_at, tells}
-use Rattle.life.specs.Coding.Told.{done, yielded, refused}
-use Rattle.life.specs.Checks.{Program, Known, on_map, slot_of, decoded, fetch_answer, fetch_row, row_by, row_of}
+use Rattle.life.specs.Coding.{Coding, opened_at, tells}
+use Rattle.life.specs.Coding.Told.{yielded}
+use Rattle.life.specs.Checks.{Program, Known, on_map, slot_of, decoded, fetch_answer, row_by, row_of}
 
 pub record Fetching (c : Coding) (K : Known) (a i : ℕ) : Type 0 where
   pub key : ℕ

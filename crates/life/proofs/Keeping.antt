@@ -1,6 +1,6 @@
 -- What an accepted install leaves behind it: its image was checked, and its slots hold its records until they are
 -- overwritten.
-use Rattle.std.proofs.Common.{◌≡◌, ℕ, ◌<◌, ◌≤◌, Bool, true, false, cond, eqb, ltb, List, [], ◌∷◌, length, Some, None, Option, sym, refl, ap, ◌∙◌, subst, arith, lt-ltb}
+use Rattle.std.proofs.Common.{◌≡◌, ℕ, ◌<◌, Bool, true, false, cond, eqb, List, [], ◌∷◌, length, Some, None, Option, sym, refl, ap, ◌∙◌, subst, arith, lt-ltb}
 use Rattle.image.specs.Reading.{head_in, record_in}
 use Rattle.life.specs.Coding.{Coding, tells}
 use Rattle.life.specs.Deeds.{Deed}

@@ -1,15 +1,14 @@
 -- One call: the law after every history that the unit agrees with, and agreement with the longer one.
-use Rattle.std.proofs.Common.{◌≡◌, ℕ, ◌^◌, ◌<◌, ◌≤◌, Bool, true, false, cond, ltb, List, [], ◌∷◌, length, get_or, Some, None, Option, sym, refl, ap, ◌∙◌, subst, arith}
+use Rattle.std.proofs.Common.{◌≡◌, ℕ, ◌^◌, ◌<◌, Bool, true, false, cond, ltb, List, [], ◌∷◌, length, Some, None, Option, sym, refl, ap, ◌∙◌, subst, arith}
 use Rattle.cipher.specs.Word.{fits_mode, Lawful}
 use Rattle.memory.specs.Slots.{wide, Sound}
-use Rattle.image.specs.Reading.{head_in}
 use Rattle.life.specs.declared.Answer.{Answer}
 use Rattle.life.specs.declared.Call.{Call}
 use Rattle.life.specs.Coding.{Coding, Suite, coding, tells}
 use Rattle.life.specs.Checks.{Known, row_of}
 use Rattle.life.specs.Deeds.{Deed, deed_of}
 use Rattle.life.specs.Deeds.Deed.{loaded, installed, overwrote, rejected, nothing}
-use Rattle.life.specs.State.{State, Did, fresh, after, known_by}
+use Rattle.life.specs.State.{State, Did, fresh, known_by}
 use Rattle.life.specs.History.{Event, event, key_in, rejections, live_key_by, cipher_key_by, image_in, slot_in, known_in}
 use Rattle.life.specs.Life.{Law, Answered, Agrees, Step}
 use Rattle.life.proofs.Meeting.{Meets, meets}

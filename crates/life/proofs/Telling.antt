@@ -1,31 +1,28 @@
 -- The law: how a call is answered after a history that was answered by its rows.
-use Rattle.std.proofs.Common.{◌≡◌, ℕ, ◌+◌, ◌*◌, ◌^◌, ◌<◌, ◌≤◌, Bool, true, false, cond, ◌&&◌, eqb, List, [], ◌∷◌, length, get_or, Some, None, Option, sym, refl, ap, ◌∙◌, subst, ap₂, arith, eqb-true}
+use Rattle.std.proofs.Common.{◌≡◌, ℕ, ◌+◌, ◌*◌, ◌^◌, ◌<◌, ◌≤◌, true, List, length, get_or, Some, None, Option, sym, refl, ap, ◌∙◌, subst, ap₂, arith}
 use Rattle.std.proofs.lemmas.List.FromFn.{get_or-map-range_with_len}
-use Rattle.std.proofs.lemmas.Bool.{and_parts}
 use Rattle.refusal.specs.declared.Refusal.TheVariants.{KeyInUse}
 use Rattle.refusal.specs.Table.{note_of}
 use Rattle.cipher.specs.Word.{fits_mode, tweak_of, Lawful}
 use Rattle.memory.specs.Slots.{wide}
 use Rattle.image.specs.Laws.{Proper}
 use Rattle.image.specs.Layout.{Head}
-use Rattle.image.specs.Reading.{head_in, record_in}
+use Rattle.image.specs.Reading.{head_in}
 use Rattle.image.proofs.Laying.{head_proper}
 use Rattle.shore.specs.Making.{Made}
 use Rattle.shore.proofs.Making.{made_head, made_record, made_words}
 use Rattle.life.specs.declared.Answer.{Answer}
-use Rattle.life.specs.declared.Answer.TheVariants.{Instruction}
 use Rattle.life.specs.declared.Call.{Call}
 use Rattle.life.specs.declared.Call.TheVariants.{Load, Fetch}
-use Rattle.life.specs.Coding.{Coding, Suite, Told, coding, sealed_at, opened_at, tells}
-use Rattle.life.specs.Coding.Told.{done, yielded, refused}
+use Rattle.life.specs.Coding.{Coding, Suite, coding, opened_at, tells}
+use Rattle.life.specs.Coding.Told.{yielded, refused}
 use Rattle.life.specs.Checks.{Program, record_opens, row_by, row_of}
 use Rattle.life.specs.History.{Event, key_in, rejections, live, live_by, live_key_by, image_in, program_of, Installed, slot_in, slots_in, overwritten, known_in}
 use Rattle.life.specs.Life.{Yields, Untouched, Law, Answered}
 use Rattle.life.proofs.Foul.{all_open}
-use Rattle.life.proofs.Writing.{record_narrow}
-use Rattle.life.proofs.Meeting.{key_live, live_key_lem, Checked}
+use Rattle.life.proofs.Meeting.{key_live, live_key_lem}
 use Rattle.life.proofs.Keeping.{none_some, Kept, kept}
-use Rattle.life.proofs.Fetching.{Fetching, fetching_from, fetched_from}
+use Rattle.life.proofs.Fetching.{fetching_from, fetched_from}
 
 abbrev program_is : List ℕ → Program
 program_is image = record { version = (head_in image).version; base = (head_in image).base; count = (head_in image).count }

@@ -1,6 +1,5 @@
 -- What a call did, as its answer tells it.
 use Rattle.std.specs.Prelude.{ℕ, Bool, cond, ◌||◌, List, ◌==◌}
-use Rattle.refusal.specs.declared.Note.{Note}
 use Rattle.life.specs.declared.Call.{Call}
 use Rattle.life.specs.declared.Call.TheVariants.{Load, Install, Fetch, Overwrite}
 use Rattle.life.specs.Coding.{Told}

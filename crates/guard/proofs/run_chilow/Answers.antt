@@ -1,5 +1,4 @@
 use Rattle.std.proofs.Common.{ap, subst}
-use Rattle.chilow.specs.Words.{chilow}
 use Rattle.life.specs.Coding.{Coding, Suite}
 use Rattle.life.specs.Life.{Life}
 use Rattle.unit.specs.View.{state_of}

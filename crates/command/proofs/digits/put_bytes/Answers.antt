@@ -1,5 +1,5 @@
-use Rattle.std.proofs.Common.{◌≡◌, ℕ, ◌+◌, ◌<◌, List, [], ◌∷◌, ◌++◌, length, take, set, sym, refl, ap, ◌∙◌, add-one, arith, take-suc-set}
-use Rattle.command.specs.Digits.{byte_of, bytes_up_to}
+use Rattle.std.proofs.Common.{ℕ, ◌<◌, List, [], ◌∷◌, ◌++◌, length, take, set, sym, refl, ap, ◌∙◌, add-one, arith, take-suc-set}
+use Rattle.command.specs.Digits.{bytes_up_to}
 use Rattle.command.proofs.Hex.{bytes_more, bytes_none, spared_more}
 use Rattle.command.proofs.digits.put_bytes.Goals as goal
 

@@ -1,4 +1,4 @@
-use Rattle.std.proofs.Common.{◌≡◌, ℕ, ◌+◌, ◌*◌, ◌^◌, ◌<◌, ◌≤◌, sym, ap, ◌∙◌, arith, lit<, rules}
+use Rattle.std.proofs.Common.{sym, arith, lit<, rules}
 use Rattle.command.proofs.Hex.{hex_more, hex_none, hex_small, hex_mono}
 use Rattle.command.proofs.digits.value_of.Goals as goal
 

@@ -1,4 +1,4 @@
-use Rattle.std.proofs.Common.{◌≡◌, ℕ, ◌-◌, ◌≤◌, None}
+use Rattle.std.proofs.Common.{◌≡◌, ◌-◌, ◌≤◌, None}
 use Rattle.image.specs.Reading.{head_of}
 use Rattle.life.specs.Coding.{coding}
 use Rattle.life.specs.Checks.{record_opens, foul_from}

@@ -1,10 +1,9 @@
-use Rattle.std.proofs.Common.{◌≡◌, ℕ, ◌+◌, ◌<◌, ◌≤◌, min, ◌≢◌, List, ◌∷◌, length, get_or, set, sym, refl, ap, ◌∙◌, subst, arith, get_or-set_other}
+use Rattle.std.proofs.Common.{◌<◌, ◌≢◌, List, ◌∷◌, length, get_or, sym, ◌∙◌, subst, arith, get_or-set_other}
 use Rattle.life.specs.declared.Answer.TheVariants.{Done}
 use Rattle.life.specs.declared.Call.TheVariants.{Load}
 use Rattle.life.specs.Coding.{Suite, coding}
 use Rattle.life.specs.History.{Event, event, past}
-use Rattle.life.specs.Life.{Law, Agrees, Life}
-use Rattle.life.specs.State.{State}
+use Rattle.life.specs.Life.{Law, Agrees}
 use Rattle.unit.specs.View.{suite_of, state_of}
 use Rattle.life.proofs.Pasts.{past_more, laws_more}
 use Rattle.unit.proofs.run.run.Goals as goal

@@ -1,4 +1,4 @@
-use Rattle.std.proofs.Common.{◌≡◌, ◌+◌, ◌∙◌, arith}
+use Rattle.std.proofs.Common.{◌+◌, ◌∙◌, arith}
 use Rattle.image.specs.Reading.{head_of}
 use Rattle.life.proofs.Writing.{record_written, all_written}
 use Rattle.unit.proofs.slots.write_records.Goals as goal

@@ -1,4 +1,4 @@
-use Rattle.std.proofs.Common.{◌≡◌, ℕ, ◌+◌, ◌-◌, ◌<◌, ◌≤◌, length, sym, refl, ap, ◌∙◌, arith, rules}
+use Rattle.std.proofs.Common.{◌≡◌, ◌+◌, ◌-◌, length, ap, ◌∙◌, arith, rules}
 use Rattle.command.specs.Forms.{first_bad, allows_at}
 use Rattle.command.proofs.First.{bad_here, good_on, all_good}
 use Rattle.command.proofs.forms.Form.wrong_at.Goals as goal
