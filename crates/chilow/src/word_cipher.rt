@@ -5,7 +5,6 @@ ghost use Rattle.refusal.specs.declared.Refusal.TheVariants.{BadTagLength};
 ghost use Rattle.schedule.specs.Schedule.{key_schedule};
 ghost use Rattle.chilow.specs.Words.{chilow, opened};
 ghost use Rattle.chilow.specs.Sealing.{chilow-lawful};
-ghost use Rattle.std.proofs.Common.{rules, arith};
 
 use crate::word::{open_by, store_by};
 use cipher::{Mode, WordCipher};
@@ -69,9 +68,9 @@ impl WordCipher for ChiLow {
 
     ghost rule = { λ _. chilow };
 
-    ghost keyed = { first_of (Prim.search rules, Prim.grind (arith, Self.row.coded.inj)) };
+    ghost keyed = { λ c. c.small };
 
-    ghost fitting = { first_of (Prim.search rules, Prim.grind (arith, Self.row.coded.inj)) };
+    ghost fitting = { λ c. c.fits };
 
     ghost lawful = { λ c. chilow-lawful c.mode c.tag_bits c.fits };
 

@@ -1,12 +1,11 @@
 // A third cipher, which shows that what is generic is generic, and tests of all three.
 #![tactic(auto)]
 
-ghost use Rattle.std.specs.Prelude.{◌≡◌, ◌^◌, ◌<◌};
+ghost use Rattle.std.specs.Prelude.{◌≡◌, ◌^◌, ◌<◌, refl};
 ghost use Rattle.cipher.specs.declared.Mode.TheVariants.{Tagged};
 ghost use Rattle.cipher_tests.specs.Bare.{bare, bare_opened};
 ghost use Rattle.cipher.proofs.Fixed.{laws_derived};
 ghost use Rattle.cipher_tests.specs.Lawful.{bare_laws};
-ghost use Rattle.std.proofs.Common.{rules, arith};
 
 use cipher::{Mode, WordCipher};
 
@@ -45,9 +44,9 @@ impl WordCipher for Bare {
 
     ghost rule = { λ _. bare };
 
-    ghost keyed = { first_of (Prim.search rules, Prim.grind (arith, Self.row.coded.inj)) };
+    ghost keyed = { λ c. c.small };
 
-    ghost fitting = { first_of (Prim.search rules, Prim.grind (arith, Self.row.coded.inj)) };
+    ghost fitting = { λ _. refl };
 
     ghost lawful = { λ c k t _ _. laws_derived (bare k Tagged 8 t) bare_opened 8 (bare_laws k t) };
 
