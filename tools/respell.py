@@ -3,7 +3,7 @@
 
 usage: python3 tools/respell.py [--list]      at the top, once, after the kit's own scripts
 
-Words and lemmas go in snake case, facts and types in upper camel case. A dash stays only between the names of two
+Words, lemmas and their variables go in snake case, facts and types in upper camel case. A dash stays only between the names of two
 definitions, as in `length-packed`. A lemma that would have a definition's name ends in `_lem`. What src/ calls
 functions, types and fields keeps its name. With --list it prints the renamings and writes nothing.
 """
@@ -16,9 +16,12 @@ TOP = pathlib.Path(".")
 DECLARED = re.compile(r"\s*(abbrev |unfoldable )?(pub )?(record |data )?([^\s(){}:;.«»]+)((?: [({].*)?) : (.*)")
 TOKEN = re.compile(r"[^\s(){}\[\];,.:`\"⌜⌝«»]+")
 CAMEL = re.compile(r"[a-z][A-Za-z0-9]*[A-Z][A-Za-z0-9]*")
+# a bound's member by the parameter and the member alone, as C.rule
+BOUND = re.compile(r"\b([A-Z])\.(?:WordCipher|Memory)\.(\w+)")
 KNOWN = {"length", "get_or", "map", "sum"}
-# names that would otherwise fall together with a field, or with a ghost member
-APART = {"strikesLeft": "strikes_left_of"}
+# names that would otherwise fall together with a field or a ghost member, and two in which a plain word only looks like
+# the name of a definition
+APART = {"strikesLeft": "strikes_left_of", "patch-after": "patch_after", "woven-odd": "woven_odd"}
 APART_IN = {"crates/life/proofs/Telling.antt": {"key_of": "key_of_lem"}}
 
 
@@ -96,7 +99,8 @@ def turn(text, names, new, rust):
         def one(m):
             token = m.group(0)
             if token not in new:
-                return token
+                local = not rust and CAMEL.fullmatch(token)
+                return snake(token) if local else token
             behind = head[: m.start()].endswith(".")
             if CAMEL.fullmatch(token) or not behind or names[token] == "field" or head[: m.start()].rstrip().endswith(".{"):
                 return new[token]
@@ -118,6 +122,8 @@ def main():
     for path in files("crates/*/src/**/*.rt") + files("crates/*/specs/**/*.antt") + files("crates/*/proofs/**/*.antt"):
         text = path.read_text()
         turned = turn(text, names, new | APART_IN.get(str(path), {}), path.suffix == ".rt")
+        if path.suffix == ".rt":
+            turned = BOUND.sub(r"\1.\2", turned)
         if turned != text:
             path.write_text(turned)
     for path in files("docs/*.md"):

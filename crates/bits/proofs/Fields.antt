@@ -100,8 +100,8 @@ module _ (b p n c : ℕ) (fits : p + n ≤ 8) (small : c < 2 ^ n) where
       let e : 7 - i ≡ 8 - p + d = omega arith in
       ap (λ k. patch b p n c / 2 ^ k % 2) e ∙ ap (λ z. z % 2) (above_same _ _ (8 - p) d high) ∙ ap (λ k. b / 2 ^ k % 2) (sym e)
 
-  patch-after : (i : ℕ) → p + n ≤ i → i < 8 → patch b p n c / 2 ^ (7 - i) % 2 ≡ b / 2 ^ (7 - i) % 2
-  patch-after i h l = below_same _ _ (8 - (p + n)) (7 - i) (omega arith) (mod_low _ (8 - (p + n)) _ (mod_below b _ (pow_pos _)))
+  patch_after : (i : ℕ) → p + n ≤ i → i < 8 → patch b p n c / 2 ^ (7 - i) % 2 ≡ b / 2 ^ (7 - i) % 2
+  patch_after i h l = below_same _ _ (8 - (p + n)) (7 - i) (omega arith) (mod_low _ (8 - (p + n)) _ (mod_below b _ (pow_pos _)))
 
   pub head_lt : b < 256 → b / 2 ^ (8 - p) * 2 ^ n + c < 2 ^ p * 2 ^ n
   head_lt h =
@@ -125,7 +125,7 @@ module _ (bs : List ℕ) (q p n c : ℕ) (within : q < length bs) (fits : p + n 
   same_byte : (i : ℕ) → i < 8 → (i < p) ⊎ (p + n ≤ i) → bit_in after (q * 8 + i) ≡ bit_in bs (q * 8 + i)
   same_byte i h out =
       at_byte i h
-      ∙ ⊎_elim (λ l. patch_before (get_or bs q 0) p n c fits small i l) (λ l. patch-after (get_or bs q 0) p n c fits small i l h) out
+      ∙ ⊎_elim (λ l. patch_before (get_or bs q 0) p n c fits small i l) (λ l. patch_after (get_or bs q 0) p n c fits small i l h) out
       ∙ sym (bit_byte bs q i h)
 
   other_byte : (j : ℕ) → (j / 8 ≢ q) → bit_in after j ≡ bit_in bs j

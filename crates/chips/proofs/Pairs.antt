@@ -28,8 +28,8 @@ slots_after high low s n x y l k e =
     ∙ ap (pair_of (get_or high i 0)) (get_or-set_other low s i y 0 ne)
     ∙ sym (get_or-paired high low i h))
 
-pub rest_after : (loanHigh loanLow : ℕ) (high low : List ℕ) (s x y : ℕ) → s < length (paired high low) → paired_rest loanHigh loanLow (set high s x) (set low s y) ≡ paired_rest loanHigh loanLow high low
-rest_after loanHigh loanLow high low s x y l =
+pub rest_after : (loan_high loan_low : ℕ) (high low : List ℕ) (s x y : ℕ) → s < length (paired high low) → paired_rest loan_high loan_low (set high s x) (set low s y) ≡ paired_rest loan_high loan_low high low
+rest_after loan_high loan_low high low s x y l =
     let lh : length (set high s x) ≡ length high = length-set high s x in
     let ll : length (set low s y) ≡ length low = length-set low s y in
     let w : s < paired_count (length high) (length low) = omega (arith, length-paired high low) in

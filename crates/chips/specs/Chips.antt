@@ -61,8 +61,8 @@ abbrev pub surplus_low : List ℕ → List ℕ → List ℕ
 surplus_low high low = drop (paired_count (length high) (length low)) low
 
 abbrev pub paired_rest : ℕ → ℕ → List ℕ → List ℕ → Rest
-paired_rest loanHigh loanLow high low =
+paired_rest loan_high loan_low high low =
     record {
-      chips = record { loan = loanHigh; size = length high } ∷ record { loan = loanLow; size = length low } ∷ [];
+      chips = record { loan = loan_high; size = length high } ∷ record { loan = loan_low; size = length low } ∷ [];
       unused = surplus_high high low ∷ surplus_low high low ∷ [];
     }

@@ -43,7 +43,7 @@ abbrev pub said_by : Words → Meaning
 said_by (word.Key digits place) = load (value_of digits.now)
 said_by (word.Image digits place) = install (bytes_of digits.now)
 said_by (word.Address digits place) = fetch (value_of digits.now)
-said_by (word.Write slot slotPlace number numberPlace) = overwrite (value_of slot.now) (value_of number.now)
+said_by (word.Write slot slot_place number number_place) = overwrite (value_of slot.now) (value_of number.now)
 said_by word.Nothing = status
 
 -- how long each word is
@@ -51,7 +51,7 @@ abbrev pub Sized : Words → Type 0
 Sized (word.Key digits place) = length digits.now ≡ 32
 Sized (word.Image digits place) = length digits.now ≤ 1022
 Sized (word.Address digits place) = length digits.now ≡ 8
-Sized (word.Write slot slotPlace number numberPlace) = (length slot.now ≡ 5) × (length number.now ≡ 12)
+Sized (word.Write slot slot_place number number_place) = (length slot.now ≡ 5) × (length number.now ≡ 12)
 Sized word.Nothing = Unit {0}
 
 -- each word is the part of the line at its place
@@ -59,8 +59,8 @@ abbrev pub Lies : List ℕ → Words → Type 0
 Lies line (word.Key digits place) = digits.now ≡ word_at line place (length digits.now)
 Lies line (word.Image digits place) = digits.now ≡ word_at line place (length digits.now)
 Lies line (word.Address digits place) = digits.now ≡ word_at line place (length digits.now)
-Lies line (word.Write slot slotPlace number numberPlace) =
-    (slot.now ≡ word_at line slotPlace (length slot.now)) × (number.now ≡ word_at line numberPlace (length number.now))
+Lies line (word.Write slot slot_place number number_place) =
+    (slot.now ≡ word_at line slot_place (length slot.now)) × (number.now ≡ word_at line number_place (length number.now))
 Lies line word.Nothing = Unit {0}
 
 -- what a command means, with the bytes of an image in a buffer

@@ -21,10 +21,10 @@ pub fn run_chilow<M: Memory>(
     calls: &[Call<'_>],
     answers: &mut [Answer],
 ) -> Unit<ChiLow, M>
-    ensures life { Life (published cipher.mode cipher.tag_bits) cipher.key (M.Memory.held memory) calls.now answers.old answers.new (state_of (λ c. c.key) M.Memory.held result) }
+    ensures life { Life (published cipher.mode cipher.tag_bits) cipher.key (M.held memory) calls.now answers.old answers.new (state_of (λ c. c.key) M.held result) }
     ensures mode { result.core.cipher.mode ≡ cipher.mode }
     ensures tag { result.core.cipher.tag_bits ≡ cipher.tag_bits }
-    ensures rest { M.Memory.rest result.memory ≡ M.Memory.rest memory }
+    ensures rest { M.rest result.memory ≡ M.rest memory }
 {
     run(cipher, memory, calls, answers)
 }

@@ -53,7 +53,7 @@ pub fn check_fit(bytes: &[u8], header: &Header) -> Result<(), Refusal>
 
 /// Whether the mode or the tag length of a header is not the cipher's.
 pub fn is_foreign<C: WordCipher>(header: &Header, cipher: &C) -> bool
-    ensures { result ≡ foreign_to (C.WordCipher.mode_of cipher.now) (C.WordCipher.tag_of cipher.now) (head_of header.now) }
+    ensures { result ≡ foreign_to (C.mode_of cipher.now) (C.tag_of cipher.now) (head_of header.now) }
 {
     let same_mode = cipher.mode().number() == header.mode().number();
     !(same_mode && cipher.tag_length() == header.tag_length())
@@ -61,7 +61,7 @@ pub fn is_foreign<C: WordCipher>(header: &Header, cipher: &C) -> bool
 
 /// Whether an image with that header is for the cipher, or the refusal.
 pub fn check_cipher<C: WordCipher>(header: &Header, cipher: &C) -> Result<(), Refusal>
-    ensures { MatchResult result (λ _. foreign_refusal (C.WordCipher.mode_of cipher.now) (C.WordCipher.tag_of cipher.now) (head_of header.now) ≡ None) (λ e. foreign_refusal (C.WordCipher.mode_of cipher.now) (C.WordCipher.tag_of cipher.now) (head_of header.now) ≡ Some e) }
+    ensures { MatchResult result (λ _. foreign_refusal (C.mode_of cipher.now) (C.tag_of cipher.now) (head_of header.now) ≡ None) (λ e. foreign_refusal (C.mode_of cipher.now) (C.tag_of cipher.now) (head_of header.now) ≡ Some e) }
 {
     if is_foreign(header, cipher) {
         Err(Refusal::Foreign)

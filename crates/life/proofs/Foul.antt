@@ -47,7 +47,7 @@ module _ (opens : ℕ → Option ℕ) where
       (q.0, ap opens (let z : j ≡ 0 + j = omega arith in z) ∙ q.1)
 
 -- the refusal of a header that was read is that of the bytes
-pub refused_by_head : (c : Coding) (key : ℕ) (inForce : Option ℕ) (slots : ℕ) (bytes : List ℕ) (h : Head) (e : Refusal) → refusal_of bytes ≡ None → h ≡ head_in bytes → program_refusal c key inForce slots bytes h ≡ Some e → install_refusal c key inForce slots bytes ≡ Some e
-refused_by_head c key inForce slots bytes h e none same refused =
-    ap (λ (o : Option Refusal). or_else o (program_refusal c key inForce slots bytes (head_in bytes))) none
-    ∙ ap (program_refusal c key inForce slots bytes) (sym same) ∙ refused
+pub refused_by_head : (c : Coding) (key : ℕ) (in_force : Option ℕ) (slots : ℕ) (bytes : List ℕ) (h : Head) (e : Refusal) → refusal_of bytes ≡ None → h ≡ head_in bytes → program_refusal c key in_force slots bytes h ≡ Some e → install_refusal c key in_force slots bytes ≡ Some e
+refused_by_head c key in_force slots bytes h e none same refused =
+    ap (λ (o : Option Refusal). or_else o (program_refusal c key in_force slots bytes (head_in bytes))) none
+    ∙ ap (program_refusal c key in_force slots bytes) (sym same) ∙ refused

@@ -60,11 +60,11 @@ none_when_done : (o : Option Refusal) → done ≡ tells (answered o) → o ≡ 
 none_when_done (Some e) q = let z : ◌≡◌ {A = ℕ} 0 1 = cc in absurd (omega arith)
 none_when_done None q = refl
 
-checked : (c : Coding) (key : ℕ) (inForce : Option ℕ) (slots : ℕ) (image : List ℕ) → program_refusal c key inForce slots image (head_in image) ≡ None → refusal_of image ≡ None → Checked c slots key image
-checked c key inForce slots image e w =
+checked : (c : Coding) (key : ℕ) (in_force : Option ℕ) (slots : ℕ) (image : List ℕ) → program_refusal c key in_force slots image (head_in image) ≡ None → refusal_of image ≡ None → Checked c slots key image
+checked c key in_force slots image e w =
     let h = head_in image in
     let a = both_none (foreign_refusal c.mode c.tag h) _ e in
-    let b = both_none (stale_refusal inForce h.version) _ a.1 in
+    let b = both_none (stale_refusal in_force h.version) _ a.1 in
     let d = both_none (size_refusal slots h.count) (foul_refusal c key image h) b.1 in
     record { whole = w; fits = leb-true h.count slots (fits_then (leb h.count slots) _ d.0); opens = d.1 }
 

@@ -30,7 +30,7 @@ version_of None = None
 
 -- ---- install
 abbrev pub stale_refusal : Option ℕ → ℕ → Option Refusal
-stale_refusal inForce version = cond (nat_lt (version_or0 inForce) version) None (Some (Stale inForce))
+stale_refusal in_force version = cond (nat_lt (version_or0 in_force) version) None (Some (Stale in_force))
 
 abbrev pub size_refusal : ℕ → ℕ → Option Refusal
 size_refusal slots count = cond (nat_le count slots) None (Some (TooBig slots))
@@ -53,16 +53,16 @@ foul_refusal c key bytes h = foul_from (record_opens c key bytes h) 0 h.count
 
 -- the first refusal that fits a good image, under a live key, with that version in force and so many slots
 abbrev pub program_refusal : Coding → ℕ → Option ℕ → ℕ → List ℕ → Head → Option Refusal
-program_refusal c key inForce slots bytes h =
+program_refusal c key in_force slots bytes h =
     or_else (foreign_refusal c.mode c.tag h)
-    (or_else (stale_refusal inForce h.version)
+    (or_else (stale_refusal in_force h.version)
     (or_else (size_refusal slots h.count)
     (foul_refusal c key bytes h)))
 
 -- and any bytes
 abbrev pub install_refusal : Coding → ℕ → Option ℕ → ℕ → List ℕ → Option Refusal
-install_refusal c key inForce slots bytes =
-    or_else (refusal_of bytes) (program_refusal c key inForce slots bytes (head_in bytes))
+install_refusal c key in_force slots bytes =
+    or_else (refusal_of bytes) (program_refusal c key in_force slots bytes (head_in bytes))
 
 abbrev pub answered : Option Refusal → Answer
 answered (Some e) = Refused e

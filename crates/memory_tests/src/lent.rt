@@ -11,8 +11,8 @@ use parts::joined::Joined;
 
 /// Takes a memory of any kind, writes to it, and hands it back.
 pub fn put<M: Memory>(memory: M, slot: u32, number: u64) -> M
-    ensures after { M.Memory.held result ≡ after_write (M.Memory.held memory) slot number }
-    ensures kept { M.Memory.rest result ≡ M.Memory.rest memory }
+    ensures after { M.held result ≡ after_write (M.held memory) slot number }
+    ensures kept { M.rest result ≡ M.rest memory }
 {
     let mut memory = memory;
     let _ = memory.write(slot, number);

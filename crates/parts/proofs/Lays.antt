@@ -35,19 +35,19 @@ length_second : (b : List ℕ) (q : Place) (n : ℕ) → length (second_after b 
 length_second b (First i) n = refl
 length_second b (Second i) n = length_cond (ltb i (length b)) (ltb n wide) b i n
 
-drop_first : (a : List ℕ) (q : Place) (n usedA usedB : ℕ) → Inside usedA usedB q → drop usedA (first_after a q n) ≡ drop usedA a
-drop_first a (First i) n usedA usedB l = drop_cond (ltb i (length a)) (ltb n wide) a i n usedA l
-drop_first a (Second i) n usedA usedB l = refl
+drop_first : (a : List ℕ) (q : Place) (n used_a used_b : ℕ) → Inside used_a used_b q → drop used_a (first_after a q n) ≡ drop used_a a
+drop_first a (First i) n used_a used_b l = drop_cond (ltb i (length a)) (ltb n wide) a i n used_a l
+drop_first a (Second i) n used_a used_b l = refl
 
-drop_second : (b : List ℕ) (q : Place) (n usedA usedB : ℕ) → Inside usedA usedB q → drop usedB (second_after b q n) ≡ drop usedB b
-drop_second b (First i) n usedA usedB l = refl
-drop_second b (Second i) n usedA usedB l = drop_cond (ltb i (length b)) (ltb n wide) b i n usedB l
+drop_second : (b : List ℕ) (q : Place) (n used_a used_b : ℕ) → Inside used_a used_b q → drop used_b (second_after b q n) ≡ drop used_b b
+drop_second b (First i) n used_a used_b l = refl
+drop_second b (Second i) n used_a used_b l = drop_cond (ltb i (length b)) (ltb n wide) b i n used_b l
 
 -- the place written, and any other
-pick_same : (a b : List ℕ) (q : Place) (n usedA usedB : ℕ) → usedA ≤ length a → usedB ≤ length b → n < wide → Inside usedA usedB q → pick (first_after a q n) (second_after b q n) q ≡ n
-pick_same a b (First i) n usedA usedB ea eb k l =
+pick_same : (a b : List ℕ) (q : Place) (n used_a used_b : ℕ) → used_a ≤ length a → used_b ≤ length b → n < wide → Inside used_a used_b q → pick (first_after a q n) (second_after b q n) q ≡ n
+pick_same a b (First i) n used_a used_b ea eb k l =
     let h : i < length a = omega arith in ap (λ z. get_or z i 0) (after_in a i n h k) ∙ get_or-set_same a i n 0 h
-pick_same a b (Second i) n usedA usedB ea eb k l =
+pick_same a b (Second i) n used_a used_b ea eb k l =
     let h : i < length b = omega arith in ap (λ z. get_or z i 0) (after_in b i n h k) ∙ get_or-set_same b i n 0 h
 
 pick_other : (a b : List ℕ) (q r : Place) (n : ℕ) → (r ≡ q → ⊥) → pick (first_after a q n) (second_after b q n) r ≡ pick a b r
@@ -56,25 +56,25 @@ pick_other a b (First i) (Second j) n ne = refl
 pick_other a b (Second i) (First j) n ne = refl
 pick_other a b (Second i) (Second j) n ne = get_or_cond (ltb i (length b)) (ltb n wide) b i n j (λ e. ne (ap Second e))
 
-read_in : (a b : List ℕ) (q : Place) (usedA usedB : ℕ) → usedA ≤ length a → usedB ≤ length b → Inside usedA usedB q → read_at a b q ≡ Ok (pick a b q)
-read_in a b (First i) usedA usedB ea eb l = sym (read_is a i (get_or a i 0) (omega arith) refl)
-read_in a b (Second i) usedA usedB ea eb l = sym (read_is b i (get_or b i 0) (omega arith) refl)
+read_in : (a b : List ℕ) (q : Place) (used_a used_b : ℕ) → used_a ≤ length a → used_b ≤ length b → Inside used_a used_b q → read_at a b q ≡ Ok (pick a b q)
+read_in a b (First i) used_a used_b ea eb l = sym (read_is a i (get_or a i 0) (omega arith) refl)
+read_in a b (Second i) used_a used_b ea eb l = sym (read_is b i (get_or b i 0) (omega arith) refl)
 
 -- a read and a write of slots that are laid out
-laid_read : (place : ℕ → Place) (usedA usedB : ℕ) (slots a b : List ℕ) (s : ℕ) → Laid place usedA usedB slots a b → s < length slots → read_at a b (place s) ≡ read_of slots s
-laid_read place usedA usedB slots a b s laid l =
-    read_in a b (place s) usedA usedB laid.enough_a laid.enough_b (laid.inside s l) ∙ read_is slots s (pick a b (place s)) l (sym (laid.value s l))
+laid_read : (place : ℕ → Place) (used_a used_b : ℕ) (slots a b : List ℕ) (s : ℕ) → Laid place used_a used_b slots a b → s < length slots → read_at a b (place s) ≡ read_of slots s
+laid_read place used_a used_b slots a b s laid l =
+    read_in a b (place s) used_a used_b laid.enough_a laid.enough_b (laid.inside s l) ∙ read_is slots s (pick a b (place s)) l (sym (laid.value s l))
 
-laid_write : (place : ℕ → Place) (usedA usedB : ℕ) (slots after a b : List ℕ) (s n : ℕ) → Laid place usedA usedB slots a b → Laid place usedA usedB after (first_after a (place s) n) (second_after b (place s) n) → ((i j : ℕ) → place i ≡ place j → i ≡ j) → length after ≡ length slots → s < length slots → n < wide → after ≡ after_write slots s n
-laid_write place usedA usedB slots after a b s n laid laid' apart same l k =
+laid_write : (place : ℕ → Place) (used_a used_b : ℕ) (slots after a b : List ℕ) (s n : ℕ) → Laid place used_a used_b slots a b → Laid place used_a used_b after (first_after a (place s) n) (second_after b (place s) n) → ((i j : ℕ) → place i ≡ place j → i ≡ j) → length after ≡ length slots → s < length slots → n < wide → after ≡ after_write slots s n
+laid_write place used_a used_b slots after a b s n laid laid' apart same l k =
     after_is slots after s n l k same
-    (laid'.value s (omega arith) ∙ pick_same a b (place s) n usedA usedB laid.enough_a laid.enough_b k (laid.inside s l))
+    (laid'.value s (omega arith) ∙ pick_same a b (place s) n used_a used_b laid.enough_a laid.enough_b k (laid.inside s l))
     (λ i h ne. laid'.value i (omega arith) ∙ pick_other a b (place s) (place i) n (λ e. ne (apart i s e)) ∙ sym (laid.value i h))
 
-rest_laid : (usedA usedB : ℕ) (a b : List ℕ) (r p : Rest) (q : Place) (n : ℕ) → Inside usedA usedB q → rest_of usedA usedB (first_after a q n) (second_after b q n) r p ≡ rest_of usedA usedB a b r p
-rest_laid usedA usedB a b r p q n l =
-    let da = drop_first a q n usedA usedB l in
-    let db = drop_second b q n usedA usedB l in
+rest_laid : (used_a used_b : ℕ) (a b : List ℕ) (r p : Rest) (q : Place) (n : ℕ) → Inside used_a used_b q → rest_of used_a used_b (first_after a q n) (second_after b q n) r p ≡ rest_of used_a used_b a b r p
+rest_laid used_a used_b a b r p q n l =
+    let da = drop_first a q n used_a used_b l in
+    let db = drop_second b q n used_a used_b l in
     rw (da, db)
 
 -- no two slots have one place

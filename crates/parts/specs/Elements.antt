@@ -15,14 +15,14 @@ pick a b (First i) = slice_index a i
 pick a b (Second i) = slice_index b i
 
 abbrev pub Inside : ℕ → ℕ → Place → Type 0
-Inside usedA usedB (First i) = i < usedA
-Inside usedA usedB (Second i) = i < usedB
+Inside used_a used_b (First i) = i < used_a
+Inside used_a used_b (Second i) = i < used_b
 
 -- the slots of two memories, each at its place
-pub record Laid (place : ℕ → Place) (usedA usedB : ℕ) (slots a b : List ℕ) : Type 0 where
-  pub enough_a : usedA ≤ length a
-  pub enough_b : usedB ≤ length b
-  pub inside : (s : ℕ) → s < length slots → Inside usedA usedB (place s)
+pub record Laid (place : ℕ → Place) (used_a used_b : ℕ) (slots a b : List ℕ) : Type 0 where
+  pub enough_a : used_a ≤ length a
+  pub enough_b : used_b ≤ length b
+  pub inside : (s : ℕ) → s < length slots → Inside used_a used_b (place s)
   pub value : (s : ℕ) → s < length slots → slice_index slots s ≡ pick a b (place s)
 
 get_or_cut : (n : ℕ) (slots : List ℕ) (s : ℕ) → s < length (take n slots) → slice_index (take n slots) s ≡ slice_index slots s
@@ -65,13 +65,13 @@ woven_even (x ∷ a) (y ∷ b) zero h l = refl
 woven_even (x ∷ a) (y ∷ b) (suc i) h l =
     let e : 2 * suc i ≡ suc (suc (2 * i)) = omega arith in rw e (woven_even a b i (omega arith) (omega arith))
 
-woven-odd : (a b : List ℕ) (i : ℕ) → i < length a → i < length b → slice_index (woven a b) (suc (2 * i)) ≡ slice_index b i
+woven_odd : (a b : List ℕ) (i : ℕ) → i < length a → i < length b → slice_index (woven a b) (suc (2 * i)) ≡ slice_index b i
 unfolding woven
-woven-odd [] b i h l = absurd (omega arith)
-woven-odd (x ∷ a) [] i h l = absurd (omega arith)
-woven-odd (x ∷ a) (y ∷ b) zero h l = refl
-woven-odd (x ∷ a) (y ∷ b) (suc i) h l =
-    let e : 2 * suc i ≡ suc (suc (2 * i)) = omega arith in rw e (woven-odd a b i (omega arith) (omega arith))
+woven_odd [] b i h l = absurd (omega arith)
+woven_odd (x ∷ a) [] i h l = absurd (omega arith)
+woven_odd (x ∷ a) (y ∷ b) zero h l = refl
+woven_odd (x ∷ a) (y ∷ b) (suc i) h l =
+    let e : 2 * suc i ≡ suc (suc (2 * i)) = omega arith in rw e (woven_odd a b i (omega arith) (omega arith))
 
 pub length-interleaved : (a b : List ℕ) → length (interleaved a b) ≡ interleaved_count (length a) (length b)
 unfolding interleaved
@@ -100,6 +100,6 @@ interleaved_laid a b m k em ek =
           (λ (l : s % 2 ≡ 0 → ⊥).
           let t = ne_eqb (s % 2) 0 l in
           let e : s ≡ suc (2 * (s / 2)) = omega arith in
-          rw t (ap (λ z. slice_index (woven a b) z) e ∙ woven-odd a b (s / 2) (omega arith) (omega arith)))
+          rw t (ap (λ z. slice_index (woven a b) z) e ∙ woven_odd a b (s / 2) (omega arith) (omega arith)))
           (cases_eq (s % 2) 0);
     }

@@ -24,7 +24,7 @@ interleaved_count m n = min most (2 * min m n)
 
 -- the rest of both parts, and the slots of a part past those that are used
 abbrev pub rest_of : ℕ → ℕ → List ℕ → List ℕ → Rest → Rest → Rest
-rest_of usedA usedB a b r q = record { chips = r.chips ++ q.chips; unused = drop usedA a ∷ drop usedB b ∷ (r.unused ++ q.unused) }
+rest_of used_a used_b a b r q = record { chips = r.chips ++ q.chips; unused = drop used_a a ∷ drop used_b b ∷ (r.unused ++ q.unused) }
 
 abbrev pub joined_rest : List ℕ → List ℕ → Rest → Rest → Rest
 joined_rest a b = rest_of (length a) (joined_count (length a) (length b) - length a) a b

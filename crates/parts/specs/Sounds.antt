@@ -7,16 +7,16 @@ use Rattle.parts.specs.declared.place.Place.TheVariants.{First, Second}
 use Rattle.parts.specs.Parts.{joined, interleaved}
 use Rattle.parts.specs.Elements.{pick, Inside, Laid, length-joined, joined_laid, length-interleaved, interleaved_laid}
 
-pick_small : (a b : List ℕ) (usedA usedB : ℕ) → Sound a → Sound b → usedA ≤ length a → usedB ≤ length b → (q : Place) → Inside usedA usedB q → pick a b q < wide
-pick_small a b usedA usedB sa sb ea eb (First i) l = sa.small i (omega arith)
-pick_small a b usedA usedB sa sb ea eb (Second i) l = sb.small i (omega arith)
+pick_small : (a b : List ℕ) (used_a used_b : ℕ) → Sound a → Sound b → used_a ≤ length a → used_b ≤ length b → (q : Place) → Inside used_a used_b q → pick a b q < wide
+pick_small a b used_a used_b sa sb ea eb (First i) l = sa.small i (omega arith)
+pick_small a b used_a used_b sa sb ea eb (Second i) l = sb.small i (omega arith)
 
-laid_sound : (place : ℕ → Place) (usedA usedB : ℕ) (slots a b : List ℕ) → Laid place usedA usedB slots a b → length slots ≤ most → Sound a → Sound b → Sound slots
-laid_sound place usedA usedB slots a b laid few sa sb =
+laid_sound : (place : ℕ → Place) (used_a used_b : ℕ) (slots a b : List ℕ) → Laid place used_a used_b slots a b → length slots ≤ most → Sound a → Sound b → Sound slots
+laid_sound place used_a used_b slots a b laid few sa sb =
     record {
       few = few;
       small = λ s h.
-          omega (arith, laid.value s h, pick_small a b usedA usedB sa sb laid.enough_a laid.enough_b (place s) (laid.inside s h));
+          omega (arith, laid.value s h, pick_small a b used_a used_b sa sb laid.enough_a laid.enough_b (place s) (laid.inside s h));
     }
 
 pub joined-sound : (a b : List ℕ) → Sound a → Sound b → Sound (joined a b)

@@ -16,11 +16,11 @@ pub struct Interleaved<E, O> {
 }
 
 impl<E: Memory, O: Memory> Memory for Interleaved<E, O> {
-    ghost held = { λ m. interleaved_slots (E.Memory.held m.even) (O.Memory.held m.odd) };
+    ghost held = { λ m. interleaved_slots (E.held m.even) (O.held m.odd) };
 
-    ghost rest = { λ m. interleaved_rest (E.Memory.held m.even) (O.Memory.held m.odd) (E.Memory.rest m.even) (O.Memory.rest m.odd) };
+    ghost rest = { λ m. interleaved_rest (E.held m.even) (O.held m.odd) (E.rest m.even) (O.rest m.odd) };
 
-    ghost sound = { λ m. interleaved-sound (E.Memory.held m.even) (O.Memory.held m.odd) (E.Memory.sound m.even) (O.Memory.sound m.odd) };
+    ghost sound = { λ m. interleaved-sound (E.held m.even) (O.held m.odd) (E.sound m.even) (O.sound m.odd) };
 
     fn slots(&self) -> u32 {
         interleaved_slots(self.even.slots(), self.odd.slots())

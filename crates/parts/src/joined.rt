@@ -16,11 +16,11 @@ pub struct Joined<F, S> {
 }
 
 impl<F: Memory, S: Memory> Memory for Joined<F, S> {
-    ghost held = { λ m. joined_slots (F.Memory.held m.first) (S.Memory.held m.second) };
+    ghost held = { λ m. joined_slots (F.held m.first) (S.held m.second) };
 
-    ghost rest = { λ m. joined_rest (F.Memory.held m.first) (S.Memory.held m.second) (F.Memory.rest m.first) (S.Memory.rest m.second) };
+    ghost rest = { λ m. joined_rest (F.held m.first) (S.held m.second) (F.rest m.first) (S.rest m.second) };
 
-    ghost sound = { λ m. joined-sound (F.Memory.held m.first) (S.Memory.held m.second) (F.Memory.sound m.first) (S.Memory.sound m.second) };
+    ghost sound = { λ m. joined-sound (F.held m.first) (S.held m.second) (F.sound m.first) (S.sound m.second) };
 
     fn slots(&self) -> u32 {
         joined_slots(self.first.slots(), self.second.slots())

@@ -52,7 +52,7 @@ pub fn interleaved_place(slot: u32) -> Place
 
 /// Reads at a place.
 pub fn read_at<F: Memory, S: Memory>(first: &F, second: &S, place: Place) -> Result<u64, Refusal>
-    ensures { result ≡ read_at (F.Memory.held first.now) (S.Memory.held second.now) place }
+    ensures { result ≡ read_at (F.held first.now) (S.held second.now) place }
 {
     match place {
         Place::First(slot) => first.read(slot),
@@ -62,10 +62,10 @@ pub fn read_at<F: Memory, S: Memory>(first: &F, second: &S, place: Place) -> Res
 
 /// Writes at a place: only one of the two memories changes, and only its slots.
 pub fn write_at<F: Memory, S: Memory>(first: &mut F, second: &mut S, place: Place, number: u64)
-    ensures first { F.Memory.held first.new ≡ first_after (F.Memory.held first.old) place number }
-    ensures second { S.Memory.held second.new ≡ second_after (S.Memory.held second.old) place number }
-    ensures kept_first { F.Memory.rest first.new ≡ F.Memory.rest first.old }
-    ensures kept_second { S.Memory.rest second.new ≡ S.Memory.rest second.old }
+    ensures first { F.held first.new ≡ first_after (F.held first.old) place number }
+    ensures second { S.held second.new ≡ second_after (S.held second.old) place number }
+    ensures kept_first { F.rest first.new ≡ F.rest first.old }
+    ensures kept_second { S.rest second.new ≡ S.rest second.old }
 {
     match place {
         Place::First(slot) => {

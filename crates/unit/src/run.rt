@@ -17,9 +17,9 @@ pub fn run<C: WordCipher, M: Memory>(
     calls: &[Call<'_>],
     answers: &mut [Answer],
 ) -> Unit<C, M>
-    ensures life { Life (coding (suite_of C.WordCipher.rule C.WordCipher.mode_of C.WordCipher.tag_of cipher)) (C.WordCipher.key_of cipher) (M.Memory.held memory) calls.now answers.old answers.new (state_of C.WordCipher.key_of M.Memory.held result) }
-    ensures suite { suite_of C.WordCipher.rule C.WordCipher.mode_of C.WordCipher.tag_of result.core.cipher ≡ suite_of C.WordCipher.rule C.WordCipher.mode_of C.WordCipher.tag_of cipher }
-    ensures rest { M.Memory.rest result.memory ≡ M.Memory.rest memory }
+    ensures life { Life (coding (suite_of C.rule C.mode_of C.tag_of cipher)) (C.key_of cipher) (M.held memory) calls.now answers.old answers.new (state_of C.key_of M.held result) }
+    ensures suite { suite_of C.rule C.mode_of C.tag_of result.core.cipher ≡ suite_of C.rule C.mode_of C.tag_of cipher }
+    ensures rest { M.rest result.memory ≡ M.rest memory }
 {
     let mut unit = Unit::new(cipher, memory);
     let places = calls.len().min(answers.len());

@@ -11,8 +11,8 @@ use memory::Memory;
 fn write_record<M: Memory>(memory: &mut M, image: &[u8], header: &Header, index: u32)
     requires { index < header.now.count }
     ensures inside { index < header.now.count }
-    ensures after { M.Memory.held memory.new ≡ after_write (M.Memory.held memory.old) index (record_in image.now (head_of header.now) index) }
-    ensures kept { M.Memory.rest memory.new ≡ M.Memory.rest memory.old }
+    ensures after { M.held memory.new ≡ after_write (M.held memory.old) index (record_in image.now (head_of header.now) index) }
+    ensures kept { M.rest memory.new ≡ M.rest memory.old }
 {
     if let Some(number) = read_record(image, header, index) {
         let _ = memory.write(index, number);
@@ -21,9 +21,9 @@ fn write_record<M: Memory>(memory: &mut M, image: &[u8], header: &Header, index:
 
 // Puts each record of an image into its slot.
 pub(crate) fn write_records<M: Memory>(memory: &mut M, image: &[u8], header: &Header)
-    requires { header.now.count ≤ length (M.Memory.held memory.old) }
-    ensures after { M.Memory.held memory.new ≡ records_in image.now (head_of header.now) ++ drop header.now.count (M.Memory.held memory.old) }
-    ensures kept { M.Memory.rest memory.new ≡ M.Memory.rest memory.old }
+    requires { header.now.count ≤ length (M.held memory.old) }
+    ensures after { M.held memory.new ≡ records_in image.now (head_of header.now) ++ drop header.now.count (M.held memory.old) }
+    ensures kept { M.rest memory.new ≡ M.rest memory.old }
 {
     for index in 0..header.count() {
         write_record(memory, image, header, index);

@@ -53,7 +53,7 @@ fn both_lives<M: Memory>(
     cargo: &Cargo,
     told: &mut anyhow::Result<()>,
 ) -> M
-    ensures { M.Memory.rest result ≡ M.Memory.rest memory }
+    ensures { M.rest result ≡ M.rest memory }
 {
     let mut unit = Unit::new(cipher, memory);
     *told = tell(rt, &mut unit, cargo);

@@ -18,7 +18,7 @@ pub(crate) fn tell_list<M: Memory>(
     cargo: &Cargo,
     told: &mut anyhow::Result<()>,
 ) -> Unit<ChiLow, M>
-    ensures { M.Memory.rest result.memory ≡ M.Memory.rest memory }
+    ensures { M.rest result.memory ≡ M.rest memory }
 {
     let seventh = cargo.seventh.bytes();
     let eighth = cargo.eighth.bytes();

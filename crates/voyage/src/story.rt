@@ -14,7 +14,7 @@ pub(crate) fn tell<C: WordCipher, M: Memory>(
     unit: &mut Unit<C, M>,
     cargo: &Cargo,
 ) -> anyhow::Result<()>
-    ensures { M.Memory.rest unit.new.memory ≡ M.Memory.rest unit.old.memory }
+    ensures { M.rest unit.new.memory ≡ M.rest unit.old.memory }
 {
     first_key(rt, unit, cargo)?;
     no_strikes(rt, unit, cargo)?;
@@ -29,7 +29,7 @@ fn first_key<C: WordCipher, M: Memory>(
     unit: &mut Unit<C, M>,
     cargo: &Cargo,
 ) -> anyhow::Result<()>
-    ensures { M.Memory.rest unit.new.memory ≡ M.Memory.rest unit.old.memory }
+    ensures { M.rest unit.new.memory ≡ M.rest unit.old.memory }
 {
     println!(rt; "the first key")?;
     status(rt, unit)?;
@@ -47,7 +47,7 @@ fn no_strikes<C: WordCipher, M: Memory>(
     unit: &mut Unit<C, M>,
     cargo: &Cargo,
 ) -> anyhow::Result<()>
-    ensures { M.Memory.rest unit.new.memory ≡ M.Memory.rest unit.old.memory }
+    ensures { M.rest unit.new.memory ≡ M.rest unit.old.memory }
 {
     println!(rt; "refusals that are no strikes")?;
     fetch(rt, unit, 0xFFC)?;
@@ -62,7 +62,7 @@ fn stranger<C: WordCipher, M: Memory>(
     unit: &mut Unit<C, M>,
     cargo: &Cargo,
 ) -> anyhow::Result<()>
-    ensures { M.Memory.rest unit.new.memory ≡ M.Memory.rest unit.old.memory }
+    ensures { M.rest unit.new.memory ≡ M.rest unit.old.memory }
 {
     println!(rt; "a stranger")?;
     let old = cargo.seventh.record(1);
@@ -78,7 +78,7 @@ fn newer_version<C: WordCipher, M: Memory>(
     unit: &mut Unit<C, M>,
     cargo: &Cargo,
 ) -> anyhow::Result<()>
-    ensures { M.Memory.rest unit.new.memory ≡ M.Memory.rest unit.old.memory }
+    ensures { M.rest unit.new.memory ≡ M.rest unit.old.memory }
 {
     println!(rt; "a newer version")?;
     install(rt, unit, cargo.eighth.bytes())?;
@@ -92,7 +92,7 @@ fn four_rejections<C: WordCipher, M: Memory>(
     unit: &mut Unit<C, M>,
     cargo: &Cargo,
 ) -> anyhow::Result<()>
-    ensures { M.Memory.rest unit.new.memory ≡ M.Memory.rest unit.old.memory }
+    ensures { M.rest unit.new.memory ≡ M.rest unit.old.memory }
 {
     println!(rt; "four rejections")?;
     install(rt, unit, cargo.damaged.bytes())?;
@@ -110,7 +110,7 @@ fn new_key<C: WordCipher, M: Memory>(
     unit: &mut Unit<C, M>,
     cargo: &Cargo,
 ) -> anyhow::Result<()>
-    ensures { M.Memory.rest unit.new.memory ≡ M.Memory.rest unit.old.memory }
+    ensures { M.rest unit.new.memory ≡ M.rest unit.old.memory }
 {
     println!(rt; "a new key")?;
     load(rt, unit)?;
@@ -126,7 +126,7 @@ fn fetch_all<C: WordCipher, M: Memory>(
     rt: &HostRuntime,
     unit: &mut Unit<C, M>,
 ) -> anyhow::Result<()>
-    ensures { M.Memory.rest unit.new.memory ≡ M.Memory.rest unit.old.memory }
+    ensures { M.rest unit.new.memory ≡ M.rest unit.old.memory }
 {
     let mut same = 0u32;
     for index in 0u32..8 {
@@ -149,7 +149,7 @@ fn is_instruction(answer: Answer, instruction: u32) -> bool {
 }
 
 fn load<C: WordCipher, M: Memory>(rt: &HostRuntime, unit: &mut Unit<C, M>) -> anyhow::Result<()>
-    ensures { M.Memory.rest unit.new.memory ≡ M.Memory.rest unit.old.memory }
+    ensures { M.rest unit.new.memory ≡ M.rest unit.old.memory }
 {
     let answer = unit.load(KEY);
     print_call(rt, Call::load(KEY), answer)
@@ -160,7 +160,7 @@ fn install<C: WordCipher, M: Memory>(
     unit: &mut Unit<C, M>,
     image: &[u8],
 ) -> anyhow::Result<()>
-    ensures { M.Memory.rest unit.new.memory ≡ M.Memory.rest unit.old.memory }
+    ensures { M.rest unit.new.memory ≡ M.rest unit.old.memory }
 {
     let answer = unit.install(image);
     print_call(rt, Call::Install { image }, answer)
@@ -171,7 +171,7 @@ fn fetch<C: WordCipher, M: Memory>(
     unit: &mut Unit<C, M>,
     address: u32,
 ) -> anyhow::Result<()>
-    ensures { M.Memory.rest unit.new.memory ≡ M.Memory.rest unit.old.memory }
+    ensures { M.rest unit.new.memory ≡ M.rest unit.old.memory }
 {
     let answer = unit.fetch(address);
     print_call(rt, Call::fetch(address), answer)
@@ -183,7 +183,7 @@ fn overwrite<C: WordCipher, M: Memory>(
     slot: u32,
     number: u64,
 ) -> anyhow::Result<()>
-    ensures { M.Memory.rest unit.new.memory ≡ M.Memory.rest unit.old.memory }
+    ensures { M.rest unit.new.memory ≡ M.rest unit.old.memory }
 {
     let answer = unit.overwrite(slot, number);
     print_call(rt, Call::overwrite(slot, number), answer)
