@@ -1,5 +1,5 @@
 // A memory over one chip of bytes: six bytes to a slot, most significant first.
-ghost use Rattle.std.specs.Prelude.{◌≡◌, ◌+◌, ◌*◌, length};
+ghost use Rattle.std.specs.Prelude.{◌≡◌, ◌*◌, length};
 ghost use Rattle.chips.specs.Chips.{six_at, six_bytes, packed_count, packed as packed_slots, left_over, packed_rest, bytes_of};
 ghost use Rattle.chips.specs.Sounds.{packed-sound};
 

@@ -1,7 +1,7 @@
 // A word cipher, by its meaning: what a unit and a shore tool know of it.
 #![tactic(auto)]
 
-ghost use Rattle.std.specs.Prelude.{◌≡◌, ℕ, ◌+◌, ◌*◌, ◌^◌, ◌<◌, true, is_some, Some, ◌==◌};
+ghost use Rattle.std.specs.Prelude.{◌≡◌, ℕ, ◌^◌, ◌<◌, true, is_some, Some, ◌==◌};
 ghost use Rattle.cipher.specs.declared.Mode.{Mode as ModeOf};
 ghost use Rattle.cipher.specs.Word.{mode_number, fits_mode, tweak_of, Rule, decrypted, Lawful, LawsFixDecryption};
 

@@ -1,11 +1,12 @@
 // The unit with ChiLow.
 #![tactic(auto)]
 
-ghost use Rattle.std.specs.Prelude.{◌≡◌, ℕ};
+ghost use Rattle.std.specs.Prelude.{◌≡◌};
 ghost use Rattle.chilow.specs.Words.{chilow};
 ghost use Rattle.guard.specs.Published.{published};
+ghost use Rattle.life.specs.Coding.{coding};
 ghost use Rattle.life.specs.Life.{Life};
-ghost use Rattle.unit.specs.View.{state_of};
+ghost use Rattle.unit.specs.View.{suite_of, state_of};
 
 use chilow::word_cipher::ChiLow;
 use life::{Answer, Call};
@@ -24,6 +25,20 @@ pub fn run_chilow<M: Memory>(
     ensures life { Life (published cipher.mode cipher.tag_bits) cipher.key (M.held memory) calls.now answers.old answers.new (state_of (λ c. c.key) M.held result) }
     ensures mode { result.core.cipher.mode ≡ cipher.mode }
     ensures tag { result.core.cipher.tag_bits ≡ cipher.tag_bits }
+    ensures rest { M.rest result.memory ≡ M.rest memory }
+{
+    perform_all(cipher, memory, calls, answers)
+}
+
+// The same, by what the trait says of ChiLow.
+fn perform_all<M: Memory>(
+    cipher: ChiLow,
+    memory: M,
+    calls: &[Call<'_>],
+    answers: &mut [Answer],
+) -> Unit<ChiLow, M>
+    ensures life { Life (coding (record { rule = chilow; mode = cipher.mode; tag = cipher.tag_bits })) cipher.key (M.held memory) calls.now answers.old answers.new (state_of (λ c. c.key) M.held result) }
+    ensures suite { suite_of (λ _. chilow) (λ c. c.mode) (λ c. c.tag_bits) result.core.cipher ≡ suite_of (λ _. chilow) (λ c. c.mode) (λ c. c.tag_bits) cipher }
     ensures rest { M.rest result.memory ≡ M.rest memory }
 {
     run(cipher, memory, calls, answers)

@@ -1,5 +1,5 @@
 // Checking an image, and reading its records.
-ghost use Rattle.std.specs.Prelude.{◌≡◌, ◌+◌, ◌-◌, ◌*◌, ◌<◌, length, Some, None, MatchResult};
+ghost use Rattle.std.specs.Prelude.{◌≡◌, ◌<◌, Some, None, MatchResult};
 ghost use Rattle.image.specs.Laws.{LayoutIsRead, OnlyLayoutIsRead};
 ghost use Rattle.image.specs.Reading.{mode_from, head_in, head_of, record_in, record_at, pad_in, head_refusal, fit_refusal, foreign_to, foreign_refusal, refusal_of};
 

@@ -1,5 +1,5 @@
 // The widths that follow from a header.
-ghost use Rattle.std.specs.Prelude.{◌≡◌, ◌+◌, ◌*◌, ◌^◌, ◌<◌, ◌≤◌};
+ghost use Rattle.std.specs.Prelude.{◌≡◌, ◌*◌, ◌^◌, ◌<◌, ◌≤◌};
 ghost use Rattle.image.specs.Layout.{record_bits, end_of, image_length};
 ghost use Rattle.image.specs.Reading.{head_of};
 

@@ -1,5 +1,5 @@
 // The data path, from its whitened state and the masks of the tweak schedule.
-ghost use Rattle.std.specs.Prelude.{◌≡◌, ◌+◌, ◌^◌, ◌<◌, slice_index};
+ghost use Rattle.std.specs.Prelude.{◌≡◌, slice_index};
 ghost use Rattle.schedule.specs.Schedule.{table};
 ghost use Rattle.paths.specs.Paths.{chi as chi_of, mixed as mixed_of, tweak_part};
 ghost use Rattle.paths.specs.Data.{data_round, data_after};

@@ -1,5 +1,5 @@
 // The key schedule, a function of the key alone.
-ghost use Rattle.std.specs.Prelude.{◌≡◌, ◌+◌, ◌*◌, ◌^◌, ◌<◌, if◌then◌else◌};
+ghost use Rattle.std.specs.Prelude.{◌≡◌, ◌*◌, ◌^◌, ◌<◌, if◌then◌else◌};
 ghost use Rattle.bits.specs.Number.{part};
 ghost use Rattle.schedule.specs.Schedule.{table, inner, domain, constant, key_round, key_after, round_word, data_bits, key_schedule};
 

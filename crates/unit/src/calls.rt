@@ -1,5 +1,5 @@
 // The calls of a unit, each with what it does and under the law of a unit's life.
-ghost use Rattle.std.specs.Prelude.{◌≡◌, ℕ, [], length};
+ghost use Rattle.std.specs.Prelude.{◌≡◌, []};
 ghost use Rattle.life.specs.declared.Call.TheVariants.{Load, Install, Fetch, Overwrite};
 ghost use Rattle.life.specs.Coding.{coding};
 ghost use Rattle.life.specs.Life.{Agrees};

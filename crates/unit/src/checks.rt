@@ -1,5 +1,5 @@
 // The checks of an install that need no memory, and of its records.
-ghost use Rattle.std.specs.Prelude.{◌≡◌, ℕ, ◌+◌, ◌*◌, ◌<◌, length, Some, None, MatchResult};
+ghost use Rattle.std.specs.Prelude.{◌≡◌, ◌<◌, Some, None, MatchResult};
 ghost use Rattle.image.specs.Reading.{head_in, head_of};
 ghost use Rattle.life.specs.Coding.{coding, opened_at};
 ghost use Rattle.life.specs.Checks.{stale_refusal, size_refusal, record_opens, foul_refusal, program_refusal, install_refusal};

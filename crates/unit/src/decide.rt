@@ -1,8 +1,8 @@
 // What a unit does, by one match on its condition and the call.
-ghost use Rattle.std.specs.Prelude.{◌≡◌, ℕ, ◌≤◌, length};
+ghost use Rattle.std.specs.Prelude.{◌≡◌};
 ghost use Rattle.refusal.specs.Table.{note_of};
 ghost use Rattle.life.specs.declared.Answer.TheVariants.{Refused};
-ghost use Rattle.life.specs.declared.Call.TheVariants.{Load, Install, Fetch, Overwrite};
+ghost use Rattle.life.specs.declared.Call.TheVariants.{Install, Fetch, Overwrite};
 ghost use Rattle.life.specs.declared.Condition.TheVariants.{Live};
 ghost use Rattle.life.specs.Deeds.{refused_with};
 ghost use Rattle.life.specs.State.{after};

@@ -1,11 +1,10 @@
 // A unit's cipher, condition and program at work.
-ghost use Rattle.std.specs.Prelude.{◌≡◌, ℕ, ◌+◌, ◌%◌, ◌^◌, ◌<◌, ◌≤◌, min, cond, ◌||◌, length, MatchResult, slice_index};
+ghost use Rattle.std.specs.Prelude.{◌≡◌, ◌<◌, ◌≤◌, min, length, MatchResult, slice_index};
 ghost use Rattle.refusal.specs.Table.{note_of};
-ghost use Rattle.refusal.specs.declared.Refusal.TheVariants.{Odd};
 ghost use Rattle.image.specs.Reading.{head_of};
 ghost use Rattle.life.specs.declared.Answer.TheVariants.{Instruction, Refused};
 ghost use Rattle.life.specs.Coding.{coding, opened_at};
-ghost use Rattle.life.specs.Checks.{fetch_answer, fetch_row};
+ghost use Rattle.life.specs.Checks.{fetch_row};
 ghost use Rattle.life.specs.Deeds.{is_rejection};
 ghost use Rattle.life.specs.Deeds.Deed.{loaded};
 ghost use Rattle.life.specs.State.{unkeyed, program_by, struck, core_after, placed, strikes_left_of};

@@ -1,5 +1,5 @@
 // A whole life of a unit.
-ghost use Rattle.std.specs.Prelude.{◌≡◌, ℕ};
+ghost use Rattle.std.specs.Prelude.{◌≡◌};
 ghost use Rattle.life.specs.Coding.{coding};
 ghost use Rattle.life.specs.Life.{Life};
 ghost use Rattle.unit.specs.View.{suite_of, state_of};

@@ -9,9 +9,9 @@ pub returns : goal.returns
 returns g c =
     let a = c.args in
     let M = g.M.Memory in
-    let r = c.run.ensures in
+    let r = c.perform_all.ensures in
     record {
-      life = subst (λ (k : Coding). Life k a.cipher.key (M.held a.memory) a.calls.now a.answers.now c.run.new.answers (state_of (λ z. z.key) M.held c.run.result))
+      life = subst (λ (k : Coding). Life k a.cipher.key (M.held a.memory) a.calls.now a.answers.now c.perform_all.new.answers (state_of (λ z. z.key) M.held c.perform_all.result))
           (written_in a.cipher.mode a.cipher.tag_bits a.cipher.fits) r.life;
       mode = ap (λ (u : Suite). u.mode) r.suite;
       tag = ap (λ (u : Suite). u.tag) r.suite;
