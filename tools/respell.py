@@ -3,9 +3,9 @@
 
 usage: python3 tools/respell.py [--list]      at the top, once, after the kit's own scripts
 
-Words, lemmas and their variables go in snake case, facts and types in upper camel case. A dash stays only between the names of two
-definitions, as in `length-packed`. A lemma that would have a definition's name ends in `_lem`. What src/ calls
-functions, types and fields keeps its name. With --list it prints the renamings and writes nothing.
+Words, lemmas and their variables go in snake case, facts and types in upper camel case. A dash stays only between the
+names of two definitions, as in `length-packed`. A lemma that would have a definition's name ends in `_lem`. What src/
+calls functions, types and fields keeps its name. With --list it prints the renamings and writes nothing.
 """
 
 import pathlib
