@@ -70,7 +70,7 @@ fn unmapped(map: DataMap, y: u128) -> u128
 }
 
 fn circulant(x: u128, n: u32, a: u32, offsets: &[u32]) -> u128
-    requires { (n ≤ 128) × ((a < 128) × ((k : ℕ) → k < length offsets.now → slice_index offsets.now k < 128)) }
+    requires { (n ≤ 128) × ((a < 128) × (((k : ℕ) → k < length offsets.now → slice_index offsets.now k < 128))) }
     ensures is { result ≡ linear_of n a offsets.now x }
     ensures fits { result < 2 ^ n }
 {
@@ -82,7 +82,7 @@ fn circulant(x: u128, n: u32, a: u32, offsets: &[u32]) -> u128
 }
 
 fn linear_bit(x: u128, n: u32, a: u32, offsets: &[u32], i: u32) -> bool
-    requires { (i < n) × ((n ≤ 128) × ((a < 128) × ((k : ℕ) → k < length offsets.now → slice_index offsets.now k < 128))) }
+    requires { (i < n) × ((n ≤ 128) × ((a < 128) × (((k : ℕ) → k < length offsets.now → slice_index offsets.now k < 128)))) }
     ensures { result ≡ linear_bit n a offsets.now (bit x) i }
 {
     let mut r = false;
