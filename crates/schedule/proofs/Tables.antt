@@ -1,9 +1,10 @@
 -- Loops that fill a table, the next place from the one before.
-use Rattle.std.proofs.Common.{◌≡◌, ℕ, suc, ◌+◌, ◌<◌, ◌≤◌, List, length, get_or, set, replicate, sym, ap, ◌∙◌, subst, add-one, arith, length-set}
+use Rattle.std.proofs.Common.{◌≡◌, ℕ, suc, ◌+◌, ◌<◌, ◌≤◌, cond, List, length, get_or, set, replicate, sym, refl, ap, ◌∙◌, subst, add-one, arith, length-set}
 use lib.ListN.{length-replicate}
 use Rattle.std.proofs.lemmas.List.FromFn.{fill_by_all, get_or-map-range_with_len, length-map-range_with_len}
 use Rattle.std.proofs.lemmas.List.Edits.{fill_by_more}
-use Rattle.schedule.specs.Schedule.{table}
+use Rattle.cipher.specs.declared.Mode.{Mode}
+use Rattle.schedule.specs.Schedule.{◌⊻◌, table, inner, key_round, key_after, tweak_after}
 
 -- xs has n places, and those below i are f's
 pub record Filled (f : ℕ → ℕ) (n : ℕ) (xs : List ℕ) (i : ℕ) : Type 0 where
@@ -32,9 +33,6 @@ filled_next f n xs i v l e = filled_more f n xs (i + 1) v l (e ∙ ap f (sym (ad
 pub filled_last : (f : ℕ → ℕ) (n : ℕ) (xs : List ℕ) (i : ℕ) → Filled f n xs (i + 1) → get_or xs i 0 ≡ f i
 filled_last f n xs i p = p.below i (omega arith)
 
-pub filled_as : (f g : ℕ → ℕ) (n : ℕ) (xs : List ℕ) (i : ℕ) → ((k : ℕ) → k < i → f k ≡ g k) → Filled f n xs i → Filled g n xs i
-filled_as f g n xs i e p = record { size = p.size; below = λ k l. p.below k l ∙ e k l }
-
 pub filled_all : (f : ℕ → ℕ) (n : ℕ) (xs : List ℕ) (i : ℕ) → n ≤ i → Filled f n xs i → xs ≡ table n f
 unfolding table
 filled_all f n xs i l p = fill_by_all f xs n 0 p.size (λ k h. p.below k (omega arith))
@@ -46,3 +44,24 @@ table_at f n i l = get_or-map-range_with_len f 0 n i i 0 l (omega arith)
 pub table_ext : (f g : ℕ → ℕ) (n : ℕ) → ((i : ℕ) → i < n → f i ≡ g i) → table n f ≡ table n g
 unfolding table
 table_ext f g n e = fill_by_all g (table n f) n 0 (length-map-range_with_len f 0 n) (λ k l. table_at f n k l ∙ e k l)
+
+-- a list that has f's value at each of its n places is the table of f
+pub table_from : (f : ℕ → ℕ) (xs : List ℕ) (n : ℕ) → length xs ≡ n → ((k : ℕ) → k < n → get_or xs k 0 ≡ f k) → xs ≡ table n f
+unfolding table
+table_from f xs n s p = fill_by_all f xs n 0 s p
+
+-- ---- the rows of the schedules
+pub key_after_none : (v : Mode) (k : ℕ) → key_after v k 0 ≡ k
+unfolding key_after
+key_after_none v k = refl
+
+pub key_after_next : (v : Mode) (k i : ℕ) → key_after v k (i + 1) ≡ cond (inner i) (key_round v i (key_after v k i)) (key_after v k i)
+unfolding key_after
+key_after_next v k i = ap (key_after v k) (add-one i)
+
+pub tweak_after_none : (w : ℕ) (ws : ℕ → ℕ) (t : ℕ) → tweak_after w ws t 0 ≡ t ⊻ w
+unfolding tweak_after
+tweak_after_none w ws t = refl
+
+-- what the loops and tables of this crate need
+pub ruleset tables = (filled_none, filled_first, filled_all, table_from, table_at, key_after_none, key_after_next, tweak_after_none)

@@ -16,20 +16,21 @@ pub struct TweakSchedule {
 }
 
 /// The tweak states and masks of the eight rounds.
+#[tactic(auto, using(crate::proofs::Tables::tables))]
 pub fn tweak_schedule(keys: &KeySchedule, tweak: u64) -> TweakSchedule
     ensures { result ≡ tweak_schedule keys.now tweak }
 {
     let mut states = [tweak ^ keys.tweak; 9];
     let mut masks = [0; 8];
-    for i in 0..8 {
+    for (i, mask) in masks.iter_mut().enumerate() {
         let turn = tweak_round(i, states[i], &keys.rounds);
-        masks[i] = turn.mask;
+        *mask = turn.mask;
         states[i + 1] = turn.next;
     }
     TweakSchedule { states, masks }
 }
 
-// What a round makes of the tweak state.
+// What a round makes of the tweak state: what the data takes, and the state after it.
 #[derive(Clone, Copy)]
 struct Turn {
     mask: u64,

@@ -1,14 +1,7 @@
-use Rattle.std.proofs.Common.{◌≡◌, ℕ, get_or, refl, ap, ◌∙◌, arith}
+use Rattle.std.proofs.Common.{◌≡◌, ℕ, get_or, ap, ◌∙◌, arith}
 use Rattle.schedule.specs.Schedule.{mask, tweak_round, tweak_after, tweak_mask}
-use Rattle.schedule.proofs.Tables.{filled_none, filled_first, filled_more, filled_next, filled_last, filled_all}
+use Rattle.schedule.proofs.Tables.{filled_more, filled_last, filled_next}
 use Rattle.schedule.proofs.tweak.tweak_schedule.Goals as goal
-
-pub loop-i-init : goal.loop-i-init
-unfolding tweak_after
-loop-i-init c =
-    let w : ℕ = c.args.keys.now.tweak in
-    let ws : ℕ → ℕ = λ (k : ℕ). get_or c.args.keys.now.rounds k 0 in
-    (filled_first (tweak_after w ws c.args.tweak) 8 _ refl, filled_none (tweak_mask w ws c.args.tweak) 8 0)
 
 pub loop-i-preserved : goal.loop-i-preserved
 unfolding tweak_after
@@ -18,16 +11,8 @@ loop-i-preserved c =
     let ws : ℕ → ℕ = λ (k : ℕ). get_or c.args.keys.now.rounds k 0 in
     let f : ℕ → ℕ = tweak_after w ws c.args.tweak in
     let last : get_or c.loop-i.states i 0 ≡ f i = filled_last f 9 c.loop-i.states i c.loop-i.invariant.0 in (
-      filled_next f 9 c.loop-i.states i c.tweak_round-turn.result.next (omega arith)
+      filled_next f 9 c.loop-i.states i _ (omega arith)
           (c.tweak_round-turn.ensures.next ∙ ap (λ (u : ℕ). tweak_round i u (ws i)) last) c.loop-i.invariant.0,
-      filled_more (tweak_mask w ws c.args.tweak) 8 c.loop-i.masks i c.tweak_round-turn.result.mask (omega arith)
+      filled_more (tweak_mask w ws c.args.tweak) 8 c.loop-i.mask-items i _ (omega arith)
           (c.tweak_round-turn.ensures.mask ∙ ap (mask i) last) c.loop-i.invariant.1,
     )
-
-pub returns : goal.returns
-returns c =
-    let w : ℕ = c.args.keys.now.tweak in
-    let ws : ℕ → ℕ = λ (k : ℕ). get_or c.args.keys.now.rounds k 0 in
-    let p = filled_all (tweak_after w ws c.args.tweak) 9 c.loop-i.states _ (omega arith) c.loop-i.invariant.0 in
-    let q = filled_all (tweak_mask w ws c.args.tweak) 8 c.loop-i.masks _ (omega arith) c.loop-i.invariant.1 in
-    λ z. record { states = p z; masks = q z }
