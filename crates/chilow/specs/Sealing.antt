@@ -11,20 +11,19 @@ use Rattle.cipher.specs.declared.Mode.{Mode}
 use Rattle.cipher.specs.declared.Mode.TheVariants.{Tagged, Block}
 use Rattle.cipher.specs.Word.{fits_mode, decrypted, Laws, Lawful}
 use Rattle.cipher.proofs.Fixed.{let_through, laws_derived, laws_fix_decryption}
-use Rattle.schedule.specs.Schedule.{key_schedule, tweak_schedule}
 use Rattle.paths.specs.declared.path.Path.{Path}
 use Rattle.paths.specs.declared.path.Path.TheVariants.{Data32, Tag32, Data40}
 use Rattle.paths.specs.Algorithm.{decryption}
 use Rattle.paths.specs.Encryption.{encryption, source}
 use Rattle.paths.specs.Paths.{width_of}
-use Rattle.paths.specs.Data.{outcome}
+use Rattle.paths.specs.Data.{schedules, outcome}
 use Rattle.paths.proofs.Rows.{schedules_decrypt, outcome_lt}
 use Rattle.paths.proofs.Undoing.{encryption_undoes, encryption_undone, encryption_lt}
 use Rattle.chilow.specs.Words.{stored_by, opened_by, chilow, opened}
 
 -- ---- by schedules made ahead, or by the key
 pub opened_by_lem : (m : Mode) (k τ t s : ℕ)
-    → opened_by (λ p x. outcome p (key_schedule m k) (tweak_schedule (key_schedule m k) t) x) m τ s ≡ opened k m τ t s
+    → opened_by (λ p x. outcome p (schedules m k t) x) m τ s ≡ opened k m τ t s
 unfolding opened
 opened_by_lem Tagged k τ t s =
     ap₂ (λ (a b : ℕ). cond (nat_lt s (2 ^ (32 + τ)) && part a 0 τ == s % 2 ^ τ) (Some b) None)
@@ -33,16 +32,16 @@ opened_by_lem Block k τ t s =
     ap (λ (a : ℕ). cond (nat_lt s (2 ^ (32 + τ)) && part a 32 8 == 0) (Some (part a 0 32)) None) (schedules_decrypt Data40 k t s)
 
 pub stored_by_lem : (m : Mode) (k τ t i : ℕ)
-    → stored_by (source m (key_schedule m k) (tweak_schedule (key_schedule m k) t)) (λ p x. outcome p (key_schedule m k) (tweak_schedule (key_schedule m k) t) x) m τ i
+    → stored_by (source m (schedules m k t)) (λ p x. outcome p (schedules m k t) x) m τ i
     ≡ chilow k m τ t i
 unfolding chilow encryption
 stored_by_lem Tagged k τ t i =
-    ap (λ (a : ℕ). source Tagged (key_schedule Tagged k) (tweak_schedule (key_schedule Tagged k) t) i * 2 ^ τ + part a 0 τ)
-    (schedules_decrypt Tag32 k t (source Tagged (key_schedule Tagged k) (tweak_schedule (key_schedule Tagged k) t) i))
+    ap (λ (a : ℕ). source Tagged (schedules Tagged k t) i * 2 ^ τ + part a 0 τ)
+    (schedules_decrypt Tag32 k t (source Tagged (schedules Tagged k t) i))
 stored_by_lem Block k τ t i = refl
 
 decryption_lt : (p : Path) (k t x : ℕ) → decryption p k t x < 2 ^ size (width_of p)
-decryption_lt p k t x = subst (λ (z : ℕ). z < 2 ^ size (width_of p)) (schedules_decrypt p k t x) (outcome_lt p _ _ x)
+decryption_lt p k t x = subst (λ (z : ℕ). z < 2 ^ size (width_of p)) (schedules_decrypt p k t x) (outcome_lt p _ x)
 
 -- ---- a tag beside the ciphertext
 module _ (k τ t : ℕ) where

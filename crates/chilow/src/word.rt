@@ -1,136 +1,88 @@
 // Stored words by schedules: the tag beside the ciphertext, or inside the block.
-ghost use Rattle.std.specs.Prelude.{◌≡◌, ◌+◌, ◌*◌, ◌/◌, ◌%◌, ◌^◌, ◌<◌, ◌≤◌, true};
+ghost use Rattle.std.specs.Prelude.{◌≡◌, ◌+◌, ◌*◌, ◌/◌, ◌%◌, ◌^◌, ◌<◌, ◌≤◌, ◌==◌, true, Some, None, if◌then◌else◌};
 ghost use Rattle.bits.specs.Number.{part};
 ghost use Rattle.cipher.specs.Word.{fits_mode};
-ghost use Rattle.cipher.specs.declared.Mode.TheVariants.{Tagged, Block};
-ghost use Rattle.paths.specs.declared.path.Path.TheVariants.{Tag32};
+ghost use Rattle.paths.specs.declared.path.Path.TheVariants.{Data32, Tag32, Data40};
 ghost use Rattle.paths.specs.Encryption.{width, source};
 ghost use Rattle.paths.specs.Data.{outcome};
 ghost use Rattle.chilow.specs.Words.{stored_by, opened_by};
 
 use bits::part_of;
 use cipher::Mode;
-use paths::decrypt::decrypt_with;
-use paths::encrypt::encrypt_with;
 use paths::path::Path;
-use schedule::key::KeySchedule;
-use schedule::tweak::TweakSchedule;
+use paths::schedules::Schedules;
 
-// What a stored number opens to.
-pub(crate) fn open_by(
-    mode: Mode,
-    tag_bits: u32,
-    keys: &KeySchedule,
-    tweaks: &TweakSchedule,
-    stored: u64,
-) -> Option<u32>
-    requires { fits_mode mode tag_bits ≡ true }
-    ensures { result ≡ opened_by (λ p x. outcome p keys.now tweaks.now x) mode tag_bits stored }
-{
-    match mode {
-        Mode::Tagged => open_tagged(keys, tweaks, tag_bits, stored),
-        Mode::Block => open_block(keys, tweaks, stored),
+// A cipher under one tweak.
+#[derive(Clone, Copy)]
+pub(crate) struct Tweaked {
+    pub(crate) mode: Mode,
+    pub(crate) tag_bits: u32,
+    pub(crate) schedules: Schedules,
+    ghost fits: { fits_mode mode tag_bits ≡ true },
+    ghost short: { tag_bits ≤ 16 },
+    ghost narrow: { schedules.keys.«data» < 2 ^ width mode },
+}
+
+impl Tweaked {
+    // What a stored number opens to.
+    pub(crate) fn open(&self, stored: u64) -> Option<u32>
+        ensures { result ≡ opened_by (λ p x. outcome p self.now.schedules x) self.now.mode self.now.tag_bits stored }
+    {
+        if stored >= 1 << (32 + self.tag_bits) {
+            return None;
+        }
+        match self.mode {
+            Mode::Tagged => self.open_tagged(stored),
+            Mode::Block => self.open_block(stored),
+        }
     }
-}
 
-// The stored number of an instruction.
-pub(crate) fn store_by(
-    mode: Mode,
-    tag_bits: u32,
-    keys: &KeySchedule,
-    tweaks: &TweakSchedule,
-    instruction: u32,
-) -> u64
-    requires { (fits_mode mode tag_bits ≡ true) × (keys.now.«data» < 2 ^ width mode) }
-    ensures { result ≡ stored_by (source mode keys.now tweaks.now) (λ p x. outcome p keys.now tweaks.now x) mode tag_bits instruction }
-{
-    match mode {
-        Mode::Tagged => store_tagged(keys, tweaks, tag_bits, instruction),
-        Mode::Block => store_block(keys, tweaks, instruction),
+    // The stored number of an instruction.
+    pub(crate) fn store(&self, instruction: u32) -> u64
+        ensures { result ≡ stored_by (source self.now.mode self.now.schedules) (λ p x. outcome p self.now.schedules x) self.now.mode self.now.tag_bits instruction }
+    {
+        let block = self.schedules.encrypt(self.mode, instruction as u64);
+        match self.mode {
+            Mode::Tagged => self.with_tag(block),
+            Mode::Block => block,
+        }
     }
-}
 
-fn open_tagged(
-    keys: &KeySchedule,
-    tweaks: &TweakSchedule,
-    tag_bits: u32,
-    stored: u64,
-) -> Option<u32>
-    requires { tag_bits ≤ 16 }
-    ensures { result ≡ opened_by (λ p x. outcome p keys.now tweaks.now x) Tagged tag_bits stored }
-{
-    if stored >= power(32 + tag_bits) {
-        return None;
+    fn open_tagged(&self, stored: u64) -> Option<u32>
+        ensures { result ≡ (if part (outcome Tag32 self.now.schedules (stored / 2 ^ self.now.tag_bits)) 0 self.now.tag_bits == stored % 2 ^ self.now.tag_bits then Some (outcome Data32 self.now.schedules (stored / 2 ^ self.now.tag_bits)) else None) }
+    {
+        let ciphertext = stored >> self.tag_bits;
+        if self.tag_of(ciphertext) == stored % (1 << self.tag_bits) {
+            Some(self.schedules.decrypt(Path::Data32, ciphertext) as u32)
+        } else {
+            None
+        }
     }
-    let ciphertext = quotient(stored, tag_bits);
-    if tag_of(keys, tweaks, tag_bits, ciphertext) == remainder(stored, tag_bits) {
-        Some(decrypt_with(Path::Data32, keys, tweaks, ciphertext) as u32)
-    } else {
-        None
+
+    fn open_block(&self, stored: u64) -> Option<u32>
+        ensures { result ≡ (if part (outcome Data40 self.now.schedules stored) 32 8 == 0 then Some (part (outcome Data40 self.now.schedules stored) 0 32) else None) }
+    {
+        let block = self.schedules.decrypt(Path::Data40, stored) as u128;
+        if part_of(block, 32, 8) == 0 {
+            Some(part_of(block, 0, 32) as u32)
+        } else {
+            None
+        }
     }
-}
 
-fn open_block(keys: &KeySchedule, tweaks: &TweakSchedule, stored: u64) -> Option<u32>
-    ensures { result ≡ opened_by (λ p x. outcome p keys.now tweaks.now x) Block 8 stored }
-{
-    if stored >= 0x100_0000_0000 {
-        return None;
+    // A ciphertext, and its tag beside it.
+    fn with_tag(&self, ciphertext: u64) -> u64
+        requires { ciphertext < 2 ^ 32 }
+        ensures { result ≡ ciphertext * 2 ^ self.now.tag_bits + part (outcome Tag32 self.now.schedules ciphertext) 0 self.now.tag_bits }
+    {
+        let tag = self.tag_of(ciphertext);
+        (ciphertext << self.tag_bits) + tag
     }
-    let block = decrypt_with(Path::Data40, keys, tweaks, stored);
-    if part_of(block as u128, 32, 8) == 0 {
-        Some(part_of(block as u128, 0, 32) as u32)
-    } else {
-        None
+
+    fn tag_of(&self, ciphertext: u64) -> u64
+        ensures { result ≡ part (outcome Tag32 self.now.schedules ciphertext) 0 self.now.tag_bits }
+    {
+        let state = self.schedules.decrypt(Path::Tag32, ciphertext);
+        part_of(state as u128, 0, self.tag_bits) as u64
     }
-}
-
-fn store_tagged(keys: &KeySchedule, tweaks: &TweakSchedule, tag_bits: u32, instruction: u32) -> u64
-    requires { (tag_bits ≤ 16) × (keys.now.«data» < 2 ^ 32) }
-    ensures { result ≡ stored_by (source Tagged keys.now tweaks.now) (λ p x. outcome p keys.now tweaks.now x) Tagged tag_bits instruction }
-{
-    let ciphertext = encrypt_with(Mode::Tagged, keys, tweaks, instruction as u64);
-    let tag = tag_of(keys, tweaks, tag_bits, ciphertext);
-    side_by_side(ciphertext, tag, tag_bits)
-}
-
-fn store_block(keys: &KeySchedule, tweaks: &TweakSchedule, instruction: u32) -> u64
-    ensures { result ≡ stored_by (source Block keys.now tweaks.now) (λ p x. outcome p keys.now tweaks.now x) Block 8 instruction }
-{
-    encrypt_with(Mode::Block, keys, tweaks, instruction as u64)
-}
-
-fn side_by_side(ciphertext: u64, tag: u64, tag_bits: u32) -> u64
-    requires { (ciphertext < 2 ^ 32) × ((tag < 2 ^ tag_bits) × (tag_bits ≤ 16)) }
-    ensures { result ≡ ciphertext * 2 ^ tag_bits + tag }
-{
-    ciphertext * power(tag_bits) + tag
-}
-
-fn tag_of(keys: &KeySchedule, tweaks: &TweakSchedule, tag_bits: u32, ciphertext: u64) -> u64
-    requires { tag_bits ≤ 16 }
-    ensures { result ≡ part (outcome Tag32 keys.now tweaks.now ciphertext) 0 tag_bits }
-{
-    let state = decrypt_with(Path::Tag32, keys, tweaks, ciphertext);
-    remainder(state, tag_bits)
-}
-
-fn power(k: u32) -> u64
-    requires { k < 64 }
-    ensures { result ≡ 2 ^ k }
-{
-    1 << k
-}
-
-fn quotient(x: u64, k: u32) -> u64
-    requires { k < 64 }
-    ensures { result ≡ x / 2 ^ k }
-{
-    x >> k
-}
-
-fn remainder(x: u64, k: u32) -> u64
-    requires { k ≤ 16 }
-    ensures { result ≡ x % 2 ^ k }
-{
-    part_of(x as u128, 0, k) as u64
 }

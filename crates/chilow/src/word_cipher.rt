@@ -3,14 +3,15 @@ ghost use Rattle.std.specs.Prelude.{◌≡◌, ℕ, ◌^◌, ◌<◌, true, fals
 ghost use Rattle.cipher.specs.Word.{fits_mode};
 ghost use Rattle.refusal.specs.declared.Refusal.TheVariants.{BadTagLength};
 ghost use Rattle.schedule.specs.Schedule.{key_schedule};
+ghost use Rattle.paths.specs.Data.{schedules};
 ghost use Rattle.chilow.specs.Words.{chilow, opened};
 ghost use Rattle.chilow.specs.Sealing.{chilow-lawful};
 
-use crate::word::{open_by, store_by};
+use crate::word::Tweaked;
 use cipher::{Mode, WordCipher};
+use paths::schedules::Schedules;
 use refusal::Refusal;
 use schedule::key::{KeySchedule, key_schedule};
-use schedule::tweak::tweak_schedule;
 
 /// ChiLow-(32+τ) in the tagged mode, ChiLow-40 in the block mode, with a key and the words of its schedule.
 #[derive(Drop)]
@@ -44,8 +45,7 @@ impl ChiLow {
     pub fn open(&self, tweak: u64, stored: u64) -> Option<u32>
         ensures { result ≡ opened self.now.key self.now.mode self.now.tag_bits tweak stored }
     {
-        let tweaks = tweak_schedule(&self.keys, tweak);
-        open_by(self.mode, self.tag_bits, &self.keys, &tweaks, stored)
+        self.under(tweak).open(stored)
     }
 
     /// The one stored number that opens to the instruction.
@@ -54,8 +54,19 @@ impl ChiLow {
         ensures opens { opened self.now.key self.now.mode self.now.tag_bits tweak result ≡ Some instruction }
         ensures only { (s : ℕ) → s < 2 ^ 64 → opened self.now.key self.now.mode self.now.tag_bits tweak s ≡ Some instruction → s ≡ result }
     {
-        let tweaks = tweak_schedule(&self.keys, tweak);
-        store_by(self.mode, self.tag_bits, &self.keys, &tweaks, instruction)
+        self.under(tweak).store(instruction)
+    }
+
+    fn under(&self, tweak: u64) -> Tweaked
+        ensures mode { result.mode ≡ self.now.mode }
+        ensures tag { result.tag_bits ≡ self.now.tag_bits }
+        ensures schedules { result.schedules ≡ schedules self.now.mode self.now.key tweak }
+    {
+        Tweaked {
+            mode: self.mode,
+            tag_bits: self.tag_bits,
+            schedules: Schedules::new(&self.keys, tweak),
+        }
     }
 }
 

@@ -10,15 +10,14 @@ use Rattle.linear.specs.Linear.{map_of}
 use Rattle.layers.specs.Widths.{half, size}
 use Rattle.layers.proofs.Bijection.{chichi_lt}
 use Rattle.linear.proofs.Linears.{map_lt}
-use Rattle.schedule.specs.declared.key.KeySchedule.{KeySchedule}
-use Rattle.schedule.specs.declared.tweak.TweakSchedule.{TweakSchedule}
-use Rattle.schedule.specs.Schedule.{◌⊻◌, table, inner, key_round, key_after, round_word, key_schedule, mask, tweak_after, tweak_mask, tweak_schedule}
+use Rattle.schedule.specs.Schedule.{◌⊻◌, table, inner, key_round, key_after, round_word, key_schedule, mask, tweak_after, tweak_mask}
 use Rattle.schedule.proofs.Tables.{table_at, table_ext}
 use Rattle.paths.specs.declared.path.Path.{Path}
+use Rattle.paths.specs.declared.schedules.Schedules.{Schedules}
 use Rattle.paths.specs.declared.path.Path.TheVariants.{Data32, Tag32, Data40}
 use Rattle.paths.specs.Algorithm.{State, round, last_round, after, decryption, SchedulesDecrypt}
 use Rattle.paths.specs.Paths.{cipher_of, width_of, linear_of, whitening, tweak_part, chi, mixed}
-use Rattle.paths.specs.Data.{data_round, data_after, word_of, outcome}
+use Rattle.paths.specs.Data.{data_round, data_after, word_of, schedules, masks_of, outcome}
 
 -- ---- the algorithm's state, part by part
 module _ (p : Path) (k t x : ℕ) where
@@ -69,38 +68,35 @@ word_is Tag32 k = refl
 word_is Data40 k = refl
 
 module _ (p : Path) (k t x : ℕ) where
-  abbrev keys : KeySchedule
-  keys = key_schedule (cipher_of p) k
-
-  abbrev tweaks : TweakSchedule
-  tweaks = tweak_schedule keys t
+  abbrev made : Schedules
+  made = schedules (cipher_of p) k t
 
   key_row : (i : ℕ) → (after p k t x i).key ≡ key_after (cipher_of p) k i
   key_row i = ap (λ (s : State). s.key) (after_is p k t x i)
 
-  words_are : (i : ℕ) → i < 7 → get_or keys.rounds i 0 ≡ round_word (cipher_of p) k i
+  words_are : (i : ℕ) → i < 7 → get_or made.keys.rounds i 0 ≡ round_word (cipher_of p) k i
   words_are i l = table_at (round_word (cipher_of p) k) 7 i l
 
-  tweaks_are : (i : ℕ) → tweak_after (part k 0 64) (λ i. get_or keys.rounds i 0) t i ≡ tweak_after (part k 0 64) (round_word (cipher_of p) k) t i
+  tweaks_are : (i : ℕ) → tweak_after (part k 0 64) (λ i. get_or made.keys.rounds i 0) t i ≡ tweak_after (part k 0 64) (round_word (cipher_of p) k) t i
   tweaks_are i = tweak_ext (part k 0 64) _ (round_word (cipher_of p) k) t words_are i
 
-  tweak_row : (i : ℕ) → tweak_after (part k 0 64) (λ i. get_or keys.rounds i 0) t i ≡ (after p k t x i).tweak
+  tweak_row : (i : ℕ) → tweak_after (part k 0 64) (λ i. get_or made.keys.rounds i 0) t i ≡ (after p k t x i).tweak
   tweak_row i = tweaks_are i ∙ sym (ap (λ (s : State). s.tweak) (after_is p k t x i))
 
-  masks_are : (i : ℕ) → i < 8 → get_or tweaks.masks i 0 ≡ masks p k t x i
+  masks_are : (i : ℕ) → i < 8 → masks_of made i ≡ masks p k t x i
   masks_are i l = table_at _ 8 i l ∙ ap (mask i) (tweaks_are i)
 
   block_row : (i : ℕ) → i ≤ 8
-      → data_after p (λ i. get_or tweaks.masks i 0) (x ⊻ word_of keys p) i ≡ (after p k t x i).block
+      → data_after p (masks_of made) (x ⊻ word_of made.keys p) i ≡ (after p k t x i).block
   block_row i l =
-      ap (λ (w : ℕ). data_after p (λ i. get_or tweaks.masks i 0) (x ⊻ w) i) (word_is p k)
+      ap (λ (w : ℕ). data_after p (masks_of made) (x ⊻ w) i) (word_is p k)
       ∙ data_ext p _ (masks p k t x) (x ⊻ whitening p k) 8 masks_are i l ∙ sym (ap (λ (s : State). s.block) (after_is p k t x i))
 
   -- the three columns of a trace
-  pub block_rows : table 9 (data_after p (λ i. get_or tweaks.masks i 0) (x ⊻ word_of keys p)) ≡ table 9 (λ i. (after p k t x i).block)
+  pub block_rows : table 9 (data_after p (masks_of made) (x ⊻ word_of made.keys p)) ≡ table 9 (λ i. (after p k t x i).block)
   block_rows = table_ext _ _ 9 (λ i l. block_row i (omega arith))
 
-  pub tweak_rows : tweaks.states ≡ table 9 (λ i. (after p k t x i).tweak)
+  pub tweak_rows : made.tweaks.states ≡ table 9 (λ i. (after p k t x i).tweak)
   tweak_rows = table_ext _ _ 9 (λ i _. tweak_row i)
 
   pub key_rows : table 9 (key_after (cipher_of p) k) ≡ table 9 (λ i. (after p k t x i).key)
@@ -126,6 +122,12 @@ round_lt p i x m = xor_lt (size (width_of p)) _ _ (by (inner i)) (part_lt m _ (s
     by true = mixed_lt p x
     by false = chi_lt p x
 
-pub outcome_lt : (p : Path) (keys : KeySchedule) (tweaks : TweakSchedule) (x : ℕ) → outcome p keys tweaks x < 2 ^ size (width_of p)
+pub outcome_lt : (p : Path) (s : Schedules) (x : ℕ) → outcome p s x < 2 ^ size (width_of p)
 unfolding outcome data_after
-outcome_lt p _ _ x = round_lt p 7 _ _
+outcome_lt p _ x = round_lt p 7 _ _
+
+pub last_row : (p : Path) (s : Schedules) (x : ℕ) → get_or (table 9 (data_after p (masks_of s) (x ⊻ word_of s.keys p))) 8 0 ≡ outcome p s x
+unfolding outcome
+last_row p s x = table_at _ 9 8 (omega arith)
+
+pub ruleset decrypting = (last_row, outcome_lt)

@@ -1,5 +1,5 @@
 -- Encryption and decryption undo each other: round by round, and over any masks.
-use Rattle.std.proofs.Common.{◌≡◌, ℕ, zero, suc, ◌-◌, ◌^◌, ◌<◌, Bool, true, false, cond, get_or, sym, refl, ap, ◌∙◌, mod-eq_of_lt, arith, lit<}
+use Rattle.std.proofs.Common.{◌≡◌, ℕ, zero, suc, ◌-◌, ◌^◌, ◌<◌, Bool, true, false, cond, sym, refl, ap, ◌∙◌, mod-eq_of_lt, arith, lit<}
 use lib.Bits.{bit_xor, xor_assoc, xor_self, xor_zero_r, xor_lt}
 use Rattle.bits.proofs.Numbers.{part_lt}
 use Rattle.layers.specs.Inverse.{chichi⁻¹}
@@ -10,12 +10,12 @@ use Rattle.linear.proofs.Linears.{map_undoes, map_undone, inverse_lt}
 use Rattle.cipher.specs.declared.Mode.{Mode}
 use Rattle.cipher.specs.declared.Mode.TheVariants.{Tagged, Block}
 use Rattle.schedule.specs.declared.key.KeySchedule.{KeySchedule}
-use Rattle.schedule.specs.declared.tweak.TweakSchedule.{TweakSchedule}
-use Rattle.schedule.specs.Schedule.{◌⊻◌, inner, key_schedule, tweak_schedule}
+use Rattle.schedule.specs.Schedule.{◌⊻◌, inner, key_schedule}
+use Rattle.paths.specs.declared.schedules.Schedules.{Schedules}
 use Rattle.paths.specs.Algorithm.{decryption}
 use Rattle.paths.specs.Encryption.{data_path, data_map, width, undo_round, data_before, source, encryption, EncryptionUndoes, EncryptionUndone}
 use Rattle.paths.specs.Paths.{linear_of, width_of, tweak_part, chi, mixed}
-use Rattle.paths.specs.Data.{data_round, data_after, word_of, outcome}
+use Rattle.paths.specs.Data.{data_round, data_after, word_of, schedules, masks_of, outcome}
 use Rattle.paths.proofs.Rows.{chi_lt, round_lt, schedules_decrypt}
 
 xor_back : (a b : ℕ) → (a ⊻ b) ⊻ b ≡ a
@@ -99,9 +99,9 @@ module _ (v : Mode) (ms : ℕ → ℕ) where
       ap (λ (z : ℕ). data_before v ms z (i - 1)) e ∙ ap (data_before v ms y) (let q : suc (i - 1) ≡ i = omega arith in q)
 
 -- ---- by schedules
-schedules : (v : Mode) (k t x : ℕ) → outcome (data_path v) (key_schedule v k) (tweak_schedule (key_schedule v k) t) x ≡ decryption (data_path v) k t x
-schedules Tagged = schedules_decrypt (data_path Tagged)
-schedules Block = schedules_decrypt (data_path Block)
+scheduled : (v : Mode) (k t x : ℕ) → outcome (data_path v) (schedules v k t) x ≡ decryption (data_path v) k t x
+scheduled Tagged = schedules_decrypt (data_path Tagged)
+scheduled Block = schedules_decrypt (data_path Block)
 
 word_is_data : (v : Mode) (keys : KeySchedule) → word_of keys (data_path v) ≡ keys.«data»
 word_is_data Tagged keys = refl
@@ -111,36 +111,32 @@ pub data_lt : (v : Mode) (k : ℕ) → (key_schedule v k).«data» < 2 ^ width v
 data_lt Tagged k = part_lt k 64 32
 data_lt Block k = part_lt k 64 40
 
-module _ (v : Mode) (keys : KeySchedule) (tweaks : TweakSchedule) (small : keys.«data» < 2 ^ width v) where
-  pub source_lt : (y : ℕ) → y < 2 ^ width v → source v keys tweaks y < 2 ^ width v
-  source_lt y h = xor_lt (width v) _ keys.«data» (before_lt v (λ i. get_or tweaks.masks i 0) 8 y h) small
+module _ (v : Mode) (s : Schedules) (small : s.keys.«data» < 2 ^ width v) where
+  pub source_lt : (y : ℕ) → y < 2 ^ width v → source v s y < 2 ^ width v
+  source_lt y h = xor_lt (width v) _ s.keys.«data» (before_lt v (masks_of s) 8 y h) small
 
-  source_undoes : (x : ℕ) → x < 2 ^ width v → source v keys tweaks (outcome (data_path v) keys tweaks x) ≡ x
+  source_undoes : (x : ℕ) → x < 2 ^ width v → source v s (outcome (data_path v) s x) ≡ x
   unfolding outcome
   source_undoes x h =
-      ap (λ (w : ℕ). data_before v (λ i. get_or tweaks.masks i 0) (data_after (data_path v) (λ i. get_or tweaks.masks i 0) (x ⊻ w) 8) 8 ⊻ keys.«data») (word_is_data v keys)
-      ∙ ap (λ (z : ℕ). z ⊻ keys.«data») (before_after v (λ i. get_or tweaks.masks i 0) (x ⊻ keys.«data») (xor_lt (width v) x keys.«data» h small) 8)
-      ∙ xor_back x keys.«data»
+      ap (λ (w : ℕ). data_before v (masks_of s) (data_after (data_path v) (masks_of s) (x ⊻ w) 8) 8 ⊻ s.keys.«data») (word_is_data v s.keys)
+      ∙ ap (λ (z : ℕ). z ⊻ s.keys.«data») (before_after v (masks_of s) (x ⊻ s.keys.«data») (xor_lt (width v) x s.keys.«data» h small) 8)
+      ∙ xor_back x s.keys.«data»
 
-  source_undone : (y : ℕ) → y < 2 ^ width v → outcome (data_path v) keys tweaks (source v keys tweaks y) ≡ y
+  source_undone : (y : ℕ) → y < 2 ^ width v → outcome (data_path v) s (source v s y) ≡ y
   unfolding outcome
   source_undone y h =
-      ap (λ (w : ℕ). data_after (data_path v) (λ i. get_or tweaks.masks i 0) ((data_before v (λ i. get_or tweaks.masks i 0) y 8 ⊻ keys.«data») ⊻ w) 8) (word_is_data v keys)
-      ∙ ap (λ (z : ℕ). data_after (data_path v) (λ i. get_or tweaks.masks i 0) z 8) (xor_back (data_before v (λ i. get_or tweaks.masks i 0) y 8) keys.«data»)
-      ∙ after_before v (λ i. get_or tweaks.masks i 0) 8 y h
+      ap (λ (w : ℕ). data_after (data_path v) (masks_of s) ((data_before v (masks_of s) y 8 ⊻ s.keys.«data») ⊻ w) 8) (word_is_data v s.keys)
+      ∙ ap (λ (z : ℕ). data_after (data_path v) (masks_of s) z 8) (xor_back (data_before v (masks_of s) y 8) s.keys.«data»)
+      ∙ after_before v (masks_of s) 8 y h
 
 pub encryption_undoes : EncryptionUndoes
 unfolding encryption
-encryption_undoes v k t x h =
-    ap (source v (key_schedule v k) (tweak_schedule (key_schedule v k) t)) (sym (schedules v k t x))
-    ∙ source_undoes v (key_schedule v k) (tweak_schedule (key_schedule v k) t) (data_lt v k) x h
+encryption_undoes v k t x h = ap (source v (schedules v k t)) (sym (scheduled v k t x)) ∙ source_undoes v (schedules v k t) (data_lt v k) x h
 
 pub encryption_undone : EncryptionUndone
 unfolding encryption
-encryption_undone v k t y h =
-    sym (schedules v k t (source v (key_schedule v k) (tweak_schedule (key_schedule v k) t) y))
-    ∙ source_undone v (key_schedule v k) (tweak_schedule (key_schedule v k) t) (data_lt v k) y h
+encryption_undone v k t y h = sym (scheduled v k t (source v (schedules v k t) y)) ∙ source_undone v (schedules v k t) (data_lt v k) y h
 
 pub encryption_lt : (v : Mode) (k t y : ℕ) → y < 2 ^ width v → encryption v k t y < 2 ^ width v
 unfolding encryption
-encryption_lt v k t y h = source_lt v (key_schedule v k) (tweak_schedule (key_schedule v k) t) (data_lt v k) y h
+encryption_lt v k t y h = source_lt v (schedules v k t) (data_lt v k) y h

@@ -4,11 +4,11 @@ use Rattle.bits.specs.Number.{part}
 use Rattle.linear.specs.declared.LinearMap.TheVariants.{Tweak64}
 use Rattle.layers.specs.ChiChi.{chichi}
 use Rattle.linear.specs.Linear.{map_of}
-use Rattle.schedule.specs.Schedule.{◌⊻◌, table, inner, key_round, key_schedule, tweak_schedule}
+use Rattle.schedule.specs.Schedule.{◌⊻◌, table, inner, key_round}
 use Rattle.paths.specs.declared.path.Path.{Path}
 use Rattle.paths.specs.declared.decrypt.Trace.{Trace}
 use Rattle.paths.specs.Paths.{cipher_of, whitening, tweak_part, chi, mixed}
-use Rattle.paths.specs.Data.{outcome}
+use Rattle.paths.specs.Data.{schedules, outcome}
 
 pub record State : Type 0 where
   pub block : ℕ
@@ -52,4 +52,4 @@ rows p k t x = record {
 abbrev pub SchedulesDecrypt : Type 0
 SchedulesDecrypt =
     (p : Path) (k t x : ℕ)
-    → outcome p (key_schedule (cipher_of p) k) (tweak_schedule (key_schedule (cipher_of p) k) t) x ≡ decryption p k t x
+    → outcome p (schedules (cipher_of p) k t) x ≡ decryption p k t x

@@ -1,5 +1,5 @@
 -- Encryption: the rounds of the data path undone, from the last to the first, over the same masks.
-use Rattle.std.specs.Prelude.{◌≡◌, ℕ, zero, suc, ◌^◌, ◌<◌, cond, slice_index}
+use Rattle.std.specs.Prelude.{◌≡◌, ℕ, zero, suc, ◌^◌, ◌<◌, cond}
 use Rattle.linear.specs.declared.DataMap.{DataMap}
 use Rattle.linear.specs.declared.DataMap.TheVariants.{D32, D40}
 use Rattle.layers.specs.Inverse.{chichi⁻¹}
@@ -7,13 +7,13 @@ use Rattle.linear.specs.Linear.{inverse_of}
 use Rattle.layers.specs.Widths.{half, size}
 use Rattle.cipher.specs.declared.Mode.{Mode}
 use Rattle.cipher.specs.declared.Mode.TheVariants.{Tagged, Block}
-use Rattle.schedule.specs.declared.key.KeySchedule.{KeySchedule}
-use Rattle.schedule.specs.declared.tweak.TweakSchedule.{TweakSchedule}
-use Rattle.schedule.specs.Schedule.{◌⊻◌, inner, key_schedule, tweak_schedule}
+use Rattle.schedule.specs.Schedule.{◌⊻◌, inner}
 use Rattle.paths.specs.declared.path.Path.{Path}
 use Rattle.paths.specs.declared.path.Path.TheVariants.{Data32, Data40}
 use Rattle.paths.specs.Algorithm.{decryption}
+use Rattle.paths.specs.declared.schedules.Schedules.{Schedules}
 use Rattle.paths.specs.Paths.{width_of, tweak_part}
+use Rattle.paths.specs.Data.{masks_of, schedules}
 
 -- the path that the data takes, and its map
 abbrev pub data_path : Mode → Path
@@ -40,11 +40,11 @@ data_before v ms y zero = y
 data_before v ms y (suc i) = data_before v ms (undo_round v i y (ms i)) i
 
 -- what eight rounds make y of, by schedules made ahead
-abbrev pub source : Mode → KeySchedule → TweakSchedule → ℕ → ℕ
-source v keys tweaks y = data_before v (λ i. slice_index tweaks.masks i) y 8 ⊻ keys.«data»
+abbrev pub source : Mode → Schedules → ℕ → ℕ
+source v s y = data_before v (masks_of s) y 8 ⊻ s.keys.«data»
 
 unfoldable pub encryption : Mode → ℕ → ℕ → ℕ → ℕ
-encryption v k t y = source v (key_schedule v k) (tweak_schedule (key_schedule v k) t) y
+encryption v k t y = source v (schedules v k t) y
 
 -- under every key and tweak, encryption and decryption undo each other on every block
 abbrev pub EncryptionUndoes : Type 0

@@ -1,15 +1,15 @@
 // Decryption on a path, and its whole trace.
-ghost use Rattle.std.specs.Prelude.{◌≡◌, ◌^◌, ◌<◌};
+ghost use Rattle.std.specs.Prelude.{◌≡◌, ◌^◌, ◌<◌, slice_index};
 ghost use Rattle.layers.specs.Widths.{size};
+ghost use Rattle.schedule.specs.Schedule.{◌⊻◌, table};
 ghost use Rattle.paths.specs.Algorithm.{rows, SchedulesDecrypt};
-ghost use Rattle.paths.specs.Paths.{cipher_of, width_of};
-ghost use Rattle.paths.specs.Data.{word_of, outcome};
+ghost use Rattle.paths.specs.Paths.{width_of};
+ghost use Rattle.paths.specs.Data.{word_of, data_after, outcome};
 
 use crate::data::data_states;
 use crate::path::Path;
-use cipher::Mode;
-use schedule::key::{KeySchedule, key_schedule, key_states};
-use schedule::tweak::{TweakSchedule, tweak_schedule};
+use crate::schedules::Schedules;
+use schedule::key::{key_schedule, key_states};
 
 /// The states of a decryption, after the whitening and after each of the eight rounds.
 #[derive(Clone, Copy)]
@@ -19,44 +19,34 @@ pub struct Trace {
     pub key: [u128; 9],
 }
 
-/// What a path makes of `x` by schedules that were made ahead.
-pub fn decrypt_with(path: Path, keys: &KeySchedule, tweaks: &TweakSchedule, x: u64) -> u64
-    ensures is { result ≡ outcome path keys.now tweaks.now x }
-    ensures fits { result < 2 ^ size (width_of path) }
-    ensures law { SchedulesDecrypt }
-{
-    let states = data_states(path, &tweaks.masks, x ^ whitening_word(keys, path));
-    states[8]
+impl Schedules {
+    /// What a path makes of `x`.
+    #[tactic(auto, using(crate::proofs::Rows::decrypting))]
+    pub fn decrypt(&self, path: Path, x: u64) -> u64
+        ensures is { result ≡ outcome path self.now x }
+        ensures fits { result < 2 ^ size (width_of path) }
+        ensures law { SchedulesDecrypt }
+    {
+        let states = self.states(path, x);
+        states[8]
+    }
+
+    fn states(&self, path: Path, x: u64) -> [u64; 9]
+        ensures { result ≡ table 9 (data_after path (λ i. slice_index self.now.tweaks.masks i) (x ⊻ word_of self.now.keys path)) }
+    {
+        data_states(path, &self.tweaks.masks, x ^ path.whitening(&self.keys))
+    }
 }
 
 /// Every state of the decryption of `x` on a path.
 pub fn trace_of(path: Path, key: u128, tweak: u64, x: u64) -> Trace
     ensures { result ≡ rows path key tweak x }
 {
-    let cipher = cipher_of(path);
-    let keys = key_schedule(cipher, key);
-    let tweaks = tweak_schedule(&keys, tweak);
+    let cipher = path.cipher();
+    let schedules = Schedules::new(&key_schedule(cipher, key), tweak);
     Trace {
-        block: data_states(path, &tweaks.masks, x ^ whitening_word(&keys, path)),
-        tweak: tweaks.states,
+        block: schedules.states(path, x),
+        tweak: schedules.tweaks.states,
         key: key_states(cipher, key),
-    }
-}
-
-fn cipher_of(path: Path) -> Mode
-    ensures { result ≡ cipher_of path }
-{
-    match path {
-        Path::Data32 | Path::Tag32 => Mode::Tagged,
-        Path::Data40 => Mode::Block,
-    }
-}
-
-fn whitening_word(keys: &KeySchedule, path: Path) -> u64
-    ensures { result ≡ word_of keys.now path }
-{
-    match path {
-        Path::Data32 | Path::Data40 => keys.data,
-        Path::Tag32 => keys.tag,
     }
 }

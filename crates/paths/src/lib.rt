@@ -5,3 +5,4 @@ pub mod data;
 pub mod decrypt;
 pub mod encrypt;
 pub mod path;
+pub mod schedules;

@@ -1,11 +1,7 @@
-use Rattle.std.proofs.Common.{◌≡◌, ℕ, ◌≤◌, get_or}
+use Rattle.std.proofs.Common.{◌≡◌, ℕ, get_or}
 use Rattle.paths.specs.Encryption.{data_before}
 use Rattle.paths.proofs.encrypt.undo_rounds.Given as goal
 
 abbrev pub invariant-loop-i : goal.invariant-loop-i
 invariant-loop-i l =
-    (l.i ≤ 8)
-    × (data_before l.mode (λ (k : ℕ). get_or l.masks k 0) l.state l.i ≡ data_before l.mode (λ (k : ℕ). get_or l.masks k 0) l.initial.state 8)
-
-abbrev pub decreases-loop-i : goal.decreases-loop-i
-decreases-loop-i l = l.i
+    data_before l.mode (λ (k : ℕ). get_or l.masks k 0) l.state l.i ≡ data_before l.mode (λ (k : ℕ). get_or l.masks k 0) l.y 8
