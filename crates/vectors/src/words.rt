@@ -11,7 +11,7 @@ pub(crate) fn print_words(rt: &HostRuntime, key: u128, tweak: u64) -> anyhow::Re
     println!(rt;
         "stored words: instruction, stored, opened again, with bit 0 flipped, with a surplus bit"
     )?;
-    for tag_length in 8..17 {
+    for tag_length in 8..=16 {
         print_word(rt, Mode::Tagged, tag_length, key, tweak, PLAINTEXT)?;
     }
     print_word(rt, Mode::Block, 8, key, tweak, BLOCK_PLAINTEXT)
@@ -51,7 +51,7 @@ fn print_life<C: WordCipher>(
 ) -> anyhow::Result<()> {
     let stored = cipher.encrypt(tweak, instruction);
     let bits = 32 + cipher.tag_length().min(16);
-    let digits = (bits as usize + 3) / 4;
+    let digits = bits.div_ceil(4) as usize;
     print!(rt; "{instruction:08X} {stored:0digits$X}")?;
     match round_trip(cipher, tweak, instruction) {
         Some(again) => print!(rt; " {again:08X}")?,
