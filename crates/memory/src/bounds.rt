@@ -7,21 +7,14 @@ use refusal::Refusal;
 /// The most slots that a memory has.
 pub const MOST_SLOTS: u32 = 1_048_575;
 
-/// The first number of slots that is too many.
-const TOO_MANY: usize = 1_048_576;
-
 /// The first number that is too wide for a slot: 2^48.
-pub const TOO_WIDE: u64 = 281_474_976_710_656;
+pub const TOO_WIDE: u64 = 1 << 48;
 
 /// As many slots as there are, up to the most.
 pub fn cut(count: usize) -> u32
     ensures { result ≡ min most count }
 {
-    if count < TOO_MANY {
-        count as u32
-    } else {
-        MOST_SLOTS
-    }
+    count.min(MOST_SLOTS as usize) as u32
 }
 
 /// The check of a read.

@@ -16,9 +16,6 @@ pub trait Memory {
     /// The chips, and what they hold besides the slots.
     ghost rest: { Self → Rest };
 
-    /// The law: at most 1,048,575 slots, each below 2^48.
-    ghost sound: { (m : Self) → Sound (held m) };
-
     /// The number of slots.
     fn slots(&self) -> u32
         ensures { result ≡ length (held self.now) };
@@ -32,4 +29,7 @@ pub trait Memory {
         ensures answer { result ≡ write_of (held self.old) slot number }
         ensures after { held self.new ≡ after_write (held self.old) slot number }
         ensures kept { rest self.new ≡ rest self.old };
+
+    /// At most 1,048,575 slots, each below 2^48.
+    ghost sound: { (m : Self) → Sound (held m) };
 }

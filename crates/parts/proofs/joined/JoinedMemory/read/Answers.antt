@@ -9,4 +9,4 @@ returns g c =
     let b = g.S.Memory.held c.args.self.now.second in
     let l = slot_in_lem c.slots.result c.args.slot _ c.in_ok-check_slot.ensures in
     joined_read a b c.slots-2.result c.args.slot c.joined_place.result c.read_at.result
-    c.read_at.ensures c.joined_place.ensures c.slots-2.ensures (g.F.Memory.sound c.args.self.now.first).few (omega arith)
+    c.read_at.ensures c.joined_place.ensures c.slots-2.ensures (g.met.F.Memory.sound c.args.self.now.first).few (omega arith)

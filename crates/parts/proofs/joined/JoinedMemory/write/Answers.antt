@@ -21,5 +21,5 @@ returns g c =
     joined_write (F.held first) (S.held second) (F.held first') (S.held second')
     (F.rest first) (S.rest second) (F.rest first') (S.rest second') c.slots-2.result s n c.joined_place-place.result
     ens.first ens.second ens.kept_first ens.kept_second c.joined_place-place.ensures c.slots-2.ensures
-    (F.sound first).few l w.1 in
+    (g.met.F.Memory.sound first).few l w.1 in
     record { answer = ok_is (joined (F.held first) (S.held second)) s n l w.1; after = p.after; kept = p.kept }
