@@ -1,5 +1,5 @@
 // A memory over one chip of bytes: six bytes to a slot, most significant first.
-ghost use Rattle.std.specs.Prelude.{◌≡◌, ◌*◌, length};
+ghost use Rattle.std.specs.Prelude.{◌≡◌, ℕ, ◌*◌, ◌<◌, length, slice_index};
 ghost use Rattle.chips.specs.Chips.{six_at, six_bytes, packed_count, packed as packed_slots, left_over, packed_rest, bytes_of};
 ghost use Rattle.chips.specs.Sounds.{packed-sound};
 
@@ -11,6 +11,7 @@ use refusal::Refusal;
 #[derive(Drop)]
 pub struct Packed<'a> {
     bytes: &'a mut [u8],
+    ghost in_range: { (i : ℕ) → slice_index bytes.now i < 256 },
 }
 
 /// How many slots a chip of so many bytes has.
@@ -32,24 +33,15 @@ fn read_six(six: &[u8]) -> u64
     requires { length six.now ≡ 6 }
     ensures { result ≡ six_at six.now 0 }
 {
-    (six[0] as u64) * 1_099_511_627_776
-        + ((six[1] as u64) * 4_294_967_296
-            + ((six[2] as u64) * 16_777_216
-                + ((six[3] as u64) * 65_536 + ((six[4] as u64) * 256 + six[5] as u64))))
+    u64::from_be_bytes([0, 0, six[0], six[1], six[2], six[3], six[4], six[5]])
 }
 
 /// The six bytes of a number.
 fn six_bytes(number: u64) -> [u8; 6]
     ensures { result ≡ six_bytes number }
 {
-    [
-        (number / 1_099_511_627_776 % 256) as u8,
-        (number / 4_294_967_296 % 256) as u8,
-        (number / 16_777_216 % 256) as u8,
-        (number / 65_536 % 256) as u8,
-        (number / 256 % 256) as u8,
-        (number % 256) as u8,
-    ]
+    let [_, _, a, b, c, d, e, f] = number.to_be_bytes();
+    [a, b, c, d, e, f]
 }
 
 /// Puts a number into six bytes.
@@ -58,14 +50,6 @@ fn write_six(six: &mut [u8], number: u64)
     ensures { six.new ≡ six_bytes number }
 {
     six.copy_from_slice(&six_bytes(number));
-}
-
-/// A chip that is lent and let go is as before, and it is its slots and its left-over bytes.
-fn whole_chip(bytes: &mut [u8])
-    ensures same { bytes.new ≡ bytes.old }
-    ensures whole { bytes.new ≡ bytes_of (packed_slots bytes.new) (left_over bytes.new) }
-{
-    let _lent = Packed::new(bytes);
 }
 
 impl Memory for Packed<'_> {
@@ -108,8 +92,7 @@ impl<'a> Packed<'a> {
         ensures lent { result.ghost_name ≡ self.entry.bytes.ghost_name }
         ensures whole { result.now ≡ bytes_of (packed_slots self.entry.bytes.now) (left_over self.entry.bytes.now) }
     {
-        let bytes = self.bytes;
-        whole_chip(bytes);
+        let Packed { bytes } = self;
         bytes
     }
 }

@@ -1,5 +1,5 @@
 // A memory over two chips: one of 32-bit words with the upper bits, one of 16-bit words with the lower.
-ghost use Rattle.std.specs.Prelude.{◌≡◌};
+ghost use Rattle.std.specs.Prelude.{◌≡◌, ℕ, ◌<◌, ◌^◌, slice_index};
 ghost use Rattle.chips.specs.Chips.{pair_of, high_word, low_word, paired_count, paired as paired_slots, surplus_high, surplus_low, paired_rest, highs_of, lows_of};
 ghost use Rattle.chips.specs.Sounds.{paired-sound};
 
@@ -12,6 +12,8 @@ use refusal::Refusal;
 pub struct Paired<'a> {
     high: &'a mut [u32],
     low: &'a mut [u16],
+    ghost high_in_range: { (i : ℕ) → slice_index high.now i < 2 ^ 32 },
+    ghost low_in_range: { (i : ℕ) → slice_index low.now i < 2 ^ 16 },
 }
 
 /// How many slots two chips have: the shorter one counts.
@@ -25,31 +27,21 @@ fn slots_in(highs: usize, lows: usize) -> u32
 fn number_of(high: u32, low: u16) -> u64
     ensures { result ≡ pair_of high low }
 {
-    high as u64 * 65_536 + low as u64
+    u64::from(high) << 16 | u64::from(low)
 }
 
 /// The word of the high chip.
 fn high_word(number: u64) -> u32
     ensures { result ≡ high_word number }
 {
-    (number / 65_536 % 4_294_967_296) as u32
+    (number >> 16 & 0xffff_ffff) as u32
 }
 
 /// The word of the low chip.
 fn low_word(number: u64) -> u16
     ensures { result ≡ low_word number }
 {
-    (number % 65_536) as u16
-}
-
-/// Chips that are lent and let go are as before, and they are their slots and their surplus words.
-fn whole_chips(high: &mut [u32], low: &mut [u16])
-    ensures same_high { high.new ≡ high.old }
-    ensures same_low { low.new ≡ low.old }
-    ensures whole_high { high.new ≡ highs_of (paired_slots high.new low.new) (surplus_high high.new low.new) }
-    ensures whole_low { low.new ≡ lows_of (paired_slots high.new low.new) (surplus_low high.new low.new) }
-{
-    let _lent = Paired::new(high, low);
+    (number & 0xffff) as u16
 }
 
 impl Memory for Paired<'_> {
@@ -81,22 +73,24 @@ impl Memory for Paired<'_> {
 impl<'a> Paired<'a> {
     /// Takes two chips on loan.
     pub fn new(high: &'a mut [u32], low: &'a mut [u16]) -> Paired<'a>
-        ensures same { (result.high.now ≡ high.old) × (result.low.now ≡ low.old) }
-        ensures lent { (result.high.ghost_name ≡ high.entry.ghost_name) × (result.low.ghost_name ≡ low.entry.ghost_name) }
+        ensures same_high { result.high.now ≡ high.old }
+        ensures same_low { result.low.now ≡ low.old }
+        ensures lent_high { result.high.ghost_name ≡ high.entry.ghost_name }
+        ensures lent_low { result.low.ghost_name ≡ low.entry.ghost_name }
     {
         Paired { high, low }
     }
 
     /// Gives the chips back, with what was written.
     pub fn into_chips(self) -> (&'a mut [u32], &'a mut [u16])
-        ensures same { (result.0.now ≡ self.entry.high.now) × (result.1.now ≡ self.entry.low.now) }
-        ensures lent { (result.0.ghost_name ≡ self.entry.high.ghost_name) × (result.1.ghost_name ≡ self.entry.low.ghost_name) }
+        ensures same_high { result.0.now ≡ self.entry.high.now }
+        ensures same_low { result.1.now ≡ self.entry.low.now }
+        ensures lent_high { result.0.ghost_name ≡ self.entry.high.ghost_name }
+        ensures lent_low { result.1.ghost_name ≡ self.entry.low.ghost_name }
         ensures whole_high { result.0.now ≡ highs_of (paired_slots self.entry.high.now self.entry.low.now) (surplus_high self.entry.high.now self.entry.low.now) }
         ensures whole_low { result.1.now ≡ lows_of (paired_slots self.entry.high.now self.entry.low.now) (surplus_low self.entry.high.now self.entry.low.now) }
     {
-        let high = self.high;
-        let low = self.low;
-        whole_chips(high, low);
+        let Paired { high, low } = self;
         (high, low)
     }
 }
