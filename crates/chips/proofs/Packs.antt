@@ -4,9 +4,10 @@ use borrow.Rule.Slice.PartMut.{put_mid}
 use Rattle.std.proofs.lemmas.List.{places, get_or-take, get_or-drop}
 use Rattle.std.proofs.lemmas.Slice.{drop-put_mid}
 use Rattle.std.proofs.lemmas.Bool.{cases_lt}
+use Rattle.std.proofs.lemmas.Grind.{common_steps}
 use Rattle.memory.specs.Slots.{wide, after_write}
 use Rattle.memory.proofs.Written.{after_is}
-use Rattle.chips.specs.Chips.{six_at, six_bytes, packed_count, packed, left_over, packed_rest}
+use Rattle.chips.specs.Chips.{six_at, six_bytes, packed_count, packed}
 use Rattle.chips.specs.Elements.{length-packed, get_or-packed}
 
 -- equal bytes, equal numbers
@@ -38,39 +39,29 @@ mid_out : (a : ℕ) (xs ys : List ℕ) (i : ℕ) → a + length ys ≤ length xs
 mid_out a xs ys i h (inl l) = search (rules, places)
 mid_out a xs ys i h (inr l) = search (rules, places)
 
-length_mid : (a : ℕ) (xs ys : List ℕ) → a + length ys ≤ length xs → length (put_mid a (length ys) xs ys) ≡ length xs
-length_mid a xs ys h = search (rules, places)
+pub length_mid : (a k : ℕ) (xs ys : List ℕ) → length ys ≡ k → a + k ≤ length xs → length (put_mid a k xs ys) ≡ length xs
+length_mid a k xs ys e h = search (rules, places)
 
--- the chip after six bytes are written
-pub record Put (b after : List ℕ) (s n : ℕ) : Type 0 where
-  pub size : length after ≡ length b
-  pub slots : packed after ≡ after_write (packed b) s n
-  pub rest : (loan : ℕ) → packed_rest loan after ≡ packed_rest loan b
-
-pub put : (b : List ℕ) (s n : ℕ) → s < length (packed b) → n < wide → Put b (put_mid (6 * s) 6 b (six_bytes n)) s n
-put b s n l k =
+-- the slots after six bytes are written
+slots_after : (b : List ℕ) (s n : ℕ) → s < length (packed b) → n < wide → packed (put_mid (6 * s) 6 b (six_bytes n)) ≡ after_write (packed b) s n
+slots_after b s n l k =
     let after = put_mid (6 * s) 6 b (six_bytes n) in
     let c = length-packed b in
     let w : 6 * s + 6 ≤ length b = omega arith in
-    let size : length after ≡ length b = length_mid (6 * s) b (six_bytes n) w in
+    let size : length after ≡ length b = length_mid (6 * s) 6 b (six_bytes n) refl w in
     let same : length (packed after) ≡ length (packed b) = length-packed after ∙ ap packed_count size ∙ sym c in
-    let left : left_over after ≡ left_over b =
-    ap (λ z. drop (6 * packed_count z) after) size
-    ∙ drop-put_mid (6 * s) 6 b (six_bytes n) (6 * packed_count (length b)) (omega arith) (omega arith) refl in
-    record {
-      size = size;
-      slots =
-          after_is (packed b) (packed after) s n l k same
-          (get_or-packed after s (omega arith) ∙ six_cong after (six_bytes n) (6 * s) 0 (λ j lj. let z : 0 + j ≡ j = omega arith in rw z (mid_in (6 * s) b (six_bytes n) j w lj)) ∙ six_back n k)
-          (λ i h ne.
-          get_or-packed after i (omega arith)
-          ∙ six_cong after b (6 * i) (6 * i)
-          (λ j lj. mid_out (6 * s) b (six_bytes n) (6 * i + j) w
-          (⊎_elim (λ (q : i < s). inl (omega arith)) (λ (q : s ≤ i). inr (omega arith)) (cases_lt i s)))
-          ∙ sym (get_or-packed b i h));
-      rest = λ loan. cc;
-    }
+    after_is (packed b) (packed after) s n l k same
+    (get_or-packed after s (omega arith) ∙ six_cong after (six_bytes n) (6 * s) 0 (λ j lj. let z : 0 + j ≡ j = omega arith in rw z (mid_in (6 * s) b (six_bytes n) j w lj)) ∙ six_back n k)
+    (λ i h ne.
+    get_or-packed after i (omega arith)
+    ∙ six_cong after b (6 * i) (6 * i)
+    (λ j lj. mid_out (6 * s) b (six_bytes n) (6 * i + j) w
+    (⊎_elim (λ (q : i < s). inl (omega arith)) (λ (q : s ≤ i). inr (omega arith)) (cases_lt i s)))
+    ∙ sym (get_or-packed b i h))
 
 -- as the code writes it
-pub put_at : (b : List ℕ) (s n start m : ℕ) (six : List ℕ) → s < length (packed b) → n < wide → start ≡ 6 * s → m ≡ 6 → six ≡ six_bytes n → Put b (put_mid start m b six) s n
-put_at b s n start m six l k es em ex = rw (es, em, ex) (put b s n l k)
+pub slots_put : (b : List ℕ) (s n start m : ℕ) (six : List ℕ) → start ≡ 6 * s → m ≡ 6 → six ≡ six_bytes n → s < length (packed b) → n < wide → packed (put_mid start m b six) ≡ after_write (packed b) s n
+slots_put b s n start m six es em ex l k = rw (es, em, ex) (slots_after b s n l k)
+
+-- what the calls of a packed memory rest on
+pub ruleset packs = (common_steps, length-packed, get_or-packed, six_part, slots_put, length_mid, drop-put_mid)

@@ -1,9 +1,10 @@
 -- A write into both chips of a pair.
 use Rattle.std.proofs.Common.{◌≡◌, ℕ, ◌/◌, ◌%◌, ◌<◌, List, length, get_or, set, sym, ap, ◌∙◌, arith}
-use Rattle.std.proofs.lemmas.List.{length-set, get_or-set_same, get_or-set_other, drop-set-lt}
+use Rattle.std.proofs.lemmas.List.{length-set, get_or-set_same, get_or-set_other}
+use Rattle.std.proofs.lemmas.Grind.{common_steps}
 use Rattle.memory.specs.Slots.{wide, after_write}
 use Rattle.memory.proofs.Written.{after_is}
-use Rattle.chips.specs.Chips.{pair_of, paired_count, paired, paired_rest}
+use Rattle.chips.specs.Chips.{pair_of, paired}
 use Rattle.chips.specs.Elements.{length-paired, get_or-paired}
 
 pub pair_back : (n : ℕ) → n < wide → pair_of (n / 65536 % 4294967296) (n % 65536) ≡ n
@@ -28,11 +29,5 @@ slots_after high low s n x y l k e =
     ∙ ap (pair_of (get_or high i 0)) (get_or-set_other low s i y 0 ne)
     ∙ sym (get_or-paired high low i h))
 
-pub rest_after : (loan_high loan_low : ℕ) (high low : List ℕ) (s x y : ℕ) → s < length (paired high low) → paired_rest loan_high loan_low (set high s x) (set low s y) ≡ paired_rest loan_high loan_low high low
-rest_after loan_high loan_low high low s x y l =
-    let lh : length (set high s x) ≡ length high = length-set high s x in
-    let ll : length (set low s y) ≡ length low = length-set low s y in
-    let w : s < paired_count (length high) (length low) = omega (arith, length-paired high low) in
-    let dh = drop-set-lt (paired_count (length high) (length low)) high s x w in
-    let dl = drop-set-lt (paired_count (length high) (length low)) low s y w in
-    rw (lh, ll, dh, dl)
+-- what the calls of a pair's memory rest on
+pub ruleset pairs = (common_steps, length-paired, get_or-paired, slots_after, pair_back)

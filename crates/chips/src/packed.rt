@@ -52,6 +52,7 @@ fn write_six(six: &mut [u8], number: u64)
     six.copy_from_slice(&six_bytes(number));
 }
 
+#[tactic(auto, using(crate::proofs::Packs::packs))]
 impl Memory for Packed<'_> {
     ghost held = { λ m. packed_slots m.bytes.now };
 

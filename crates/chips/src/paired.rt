@@ -44,6 +44,7 @@ fn low_word(number: u64) -> u16
     (number & 0xffff) as u16
 }
 
+#[tactic(auto, using(crate::proofs::Pairs::pairs))]
 impl Memory for Paired<'_> {
     ghost held = { λ m. paired_slots m.high.now m.low.now };
 
