@@ -1,4 +1,7 @@
 pub mod Parts
 pub mod Places
-pub mod Elements
+pub mod Laws
+pub mod Joining
+pub mod Interleaving
+pub mod Arranged
 pub mod Sounds

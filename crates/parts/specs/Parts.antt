@@ -1,6 +1,6 @@
 -- Two memories as one.
-use Rattle.std.specs.Prelude.{ℕ, ◌+◌, ◌-◌, ◌*◌, ◌/◌, min, List, [], ◌∷◌, ◌++◌, length, take, drop}
-use Rattle.memory.specs.Slots.{most, Rest}
+use Rattle.std.specs.Prelude.{ℕ, ◌+◌, ◌-◌, ◌*◌, ◌/◌, min, List, [], ◌∷◌, ◌++◌, take}
+use Rattle.memory.specs.Slots.{most}
 
 -- the first's slots, then the second's
 unfoldable pub joined : List ℕ → List ℕ → List ℕ
@@ -22,12 +22,16 @@ joined_count m n = min most (m + n)
 abbrev pub interleaved_count : ℕ → ℕ → ℕ
 interleaved_count m n = min most (2 * min m n)
 
--- the rest of both parts, and the slots of a part past those that are used
-abbrev pub rest_of : ℕ → ℕ → List ℕ → List ℕ → Rest → Rest → Rest
-rest_of used_a used_b a b r q = record { chips = r.chips ++ q.chips; unused = drop used_a a ∷ drop used_b b ∷ (r.unused ++ q.unused) }
+-- how many slots of each part are among those of a joined memory
+abbrev pub joined_first : ℕ → ℕ → ℕ
+joined_first m n = m
 
-abbrev pub joined_rest : List ℕ → List ℕ → Rest → Rest → Rest
-joined_rest a b = rest_of (length a) (joined_count (length a) (length b) - length a) a b
+abbrev pub joined_second : ℕ → ℕ → ℕ
+joined_second m n = joined_count m n - m
 
-abbrev pub interleaved_rest : List ℕ → List ℕ → Rest → Rest → Rest
-interleaved_rest a b = rest_of ((interleaved_count (length a) (length b) + 1) / 2) (interleaved_count (length a) (length b) / 2) a b
+-- and of an interleaved one
+abbrev pub interleaved_first : ℕ → ℕ → ℕ
+interleaved_first m n = (interleaved_count m n + 1) / 2
+
+abbrev pub interleaved_second : ℕ → ℕ → ℕ
+interleaved_second m n = interleaved_count m n / 2

@@ -1,57 +1,42 @@
 // Two memories in turn.
-ghost use Rattle.std.specs.Prelude.{◌≡◌};
-ghost use Rattle.parts.specs.Parts.{interleaved as interleaved_slots, interleaved_rest};
-ghost use Rattle.parts.specs.Sounds.{interleaved-sound};
+ghost use Rattle.parts.specs.Parts.{interleaved, interleaved_count, interleaved_first, interleaved_second};
+ghost use Rattle.parts.specs.Places.{interleaved_place};
+ghost use Rattle.parts.specs.Interleaving.{interleaved-arranges};
 
-use crate::place::{interleaved_place, interleaved_slots, read_at, write_at};
-use memory::Memory;
-use memory::bounds::{check_slot, check_write};
-use refusal::Refusal;
+use crate::arranged::Arranged;
+use crate::arrangement::Arrangement;
+use crate::place::Place;
+use memory::bounds::cut;
 
-/// Even slots from the one memory, odd ones from the other.
-#[derive(Drop)]
-pub struct Interleaved<E, O> {
-    even: E,
-    odd: O,
-}
+/// Even slots from the first memory, odd ones from the second.
+pub type Interleaved<E, O> = Arranged<InTurn, E, O>;
 
-impl<E: Memory, O: Memory> Memory for Interleaved<E, O> {
-    ghost held = { λ m. interleaved_slots (E.held m.even) (O.held m.odd) };
+/// The arrangement of an interleaved memory.
+#[derive(Clone, Copy)]
+pub struct InTurn;
 
-    ghost rest = { λ m. interleaved_rest (E.held m.even) (O.held m.odd) (E.rest m.even) (O.rest m.odd) };
+impl Arrangement for InTurn {
+    ghost held = { interleaved };
 
-    ghost sound = { λ m. interleaved-sound (E.held m.even) (O.held m.odd) (E.sound m.even) (O.sound m.odd) };
+    ghost slots = { interleaved_count };
 
-    fn slots(&self) -> u32 {
-        interleaved_slots(self.even.slots(), self.odd.slots())
+    ghost used_first = { interleaved_first };
+
+    ghost used_second = { interleaved_second };
+
+    ghost place = { λ _ s. interleaved_place s };
+
+    ghost arranges = { interleaved-arranges };
+
+    fn slots(even: u32, odd: u32) -> u32 {
+        cut(2 * even.min(odd) as usize)
     }
 
-    fn read(&self, slot: u32) -> Result<u64, Refusal> {
-        check_slot(self.slots(), slot)?;
-        read_at(&self.even, &self.odd, interleaved_place(slot))
-    }
-
-    fn write(&mut self, slot: u32, number: u64) -> Result<(), Refusal> {
-        check_write(self.slots(), slot, number)?;
-        let place = interleaved_place(slot);
-        write_at(&mut self.even, &mut self.odd, place, number);
-        Ok(())
-    }
-}
-
-impl<E, O> Interleaved<E, O> {
-    /// Interleaves two memories.
-    pub fn new(even: E, odd: O) -> Interleaved<E, O>
-        ensures { (result.even ≡ even) × (result.odd ≡ odd) }
-    {
-        Interleaved { even, odd }
-    }
-
-    /// Hands the two memories back.
-    pub fn into_parts(self) -> (E, O)
-        ensures { (result.0 ≡ self.even) × (result.1 ≡ self.odd) }
-    {
-        let Interleaved { even, odd } = self;
-        (even, odd)
+    fn place(_even: u32, slot: u32) -> Place {
+        if slot % 2 == 0 {
+            Place::First(slot / 2)
+        } else {
+            Place::Second(slot / 2)
+        }
     }
 }

@@ -1,61 +1,42 @@
 // Two memories, one after the other.
-ghost use Rattle.std.specs.Prelude.{◌≡◌};
-ghost use Rattle.parts.specs.Parts.{joined as joined_slots, joined_rest};
-ghost use Rattle.parts.specs.Sounds.{joined-sound};
+ghost use Rattle.parts.specs.Parts.{joined, joined_count, joined_first, joined_second};
+ghost use Rattle.parts.specs.Places.{joined_place};
+ghost use Rattle.parts.specs.Joining.{joined-arranges};
 
-use crate::place::{joined_place, joined_slots, read_at, write_at};
-use memory::Memory;
-use memory::bounds::{check_slot, check_write};
-use refusal::Refusal;
+use crate::arranged::Arranged;
+use crate::arrangement::Arrangement;
+use crate::place::Place;
+use memory::bounds::cut;
 
 /// The first memory's slots, then the second's.
-#[derive(Drop)]
-pub struct Joined<F, S> {
-    first: F,
-    second: S,
-}
+pub type Joined<F, S> = Arranged<EndToEnd, F, S>;
 
-impl<F: Memory, S: Memory> Memory for Joined<F, S> {
-    ghost held = { λ m. joined_slots (F.held m.first) (S.held m.second) };
+/// The arrangement of a joined memory.
+#[derive(Clone, Copy)]
+pub struct EndToEnd;
 
-    ghost rest = { λ m. joined_rest (F.held m.first) (S.held m.second) (F.rest m.first) (S.rest m.second) };
+impl Arrangement for EndToEnd {
+    ghost held = { joined };
 
-    ghost sound = { λ m. joined-sound (F.held m.first) (S.held m.second) (F.sound m.first) (S.sound m.second) };
+    ghost slots = { joined_count };
 
-    fn slots(&self) -> u32 {
-        joined_slots(self.first.slots(), self.second.slots())
+    ghost used_first = { joined_first };
+
+    ghost used_second = { joined_second };
+
+    ghost place = { joined_place };
+
+    ghost arranges = { joined-arranges };
+
+    fn slots(first: u32, second: u32) -> u32 {
+        cut(first as usize + second as usize)
     }
 
-    fn read(&self, slot: u32) -> Result<u64, Refusal> {
-        check_slot(self.slots(), slot)?;
-        read_at(
-            &self.first,
-            &self.second,
-            joined_place(self.first.slots(), slot),
-        )
-    }
-
-    fn write(&mut self, slot: u32, number: u64) -> Result<(), Refusal> {
-        check_write(self.slots(), slot, number)?;
-        let place = joined_place(self.first.slots(), slot);
-        write_at(&mut self.first, &mut self.second, place, number);
-        Ok(())
-    }
-}
-
-impl<F, S> Joined<F, S> {
-    /// Joins two memories.
-    pub fn new(first: F, second: S) -> Joined<F, S>
-        ensures { (result.first ≡ first) × (result.second ≡ second) }
-    {
-        Joined { first, second }
-    }
-
-    /// Hands the two memories back.
-    pub fn into_parts(self) -> (F, S)
-        ensures { (result.0 ≡ self.first) × (result.1 ≡ self.second) }
-    {
-        let Joined { first, second } = self;
-        (first, second)
+    fn place(first: u32, slot: u32) -> Place {
+        if slot < first {
+            Place::First(slot)
+        } else {
+            Place::Second(slot - first)
+        }
     }
 }

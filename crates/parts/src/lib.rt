@@ -1,6 +1,8 @@
 // Two memories as one: one after the other, or in turn.
 #![tactic(auto)]
 
+pub mod arranged;
+pub mod arrangement;
 pub mod interleaved;
 pub mod joined;
-mod place;
+pub mod place;
