@@ -43,7 +43,8 @@ pub fn put_paired<'a>(
     slot: u32,
     number: u64,
 ) -> (&'a mut [u32], &'a mut [u16])
-    ensures lent { (result.0.ghost_name ≡ high.entry.ghost_name) × (result.1.ghost_name ≡ low.entry.ghost_name) }
+    ensures lent_high { result.0.ghost_name ≡ high.entry.ghost_name }
+    ensures lent_low { result.1.ghost_name ≡ low.entry.ghost_name }
     ensures highs { result.0.now ≡ highs_of (after_write (paired_slots high.old low.old) slot number) (surplus_high high.old low.old) }
     ensures lows { result.1.now ≡ lows_of (after_write (paired_slots high.old low.old) slot number) (surplus_low high.old low.old) }
 {
@@ -57,17 +58,7 @@ pub fn paired_after(high: &mut [u32], low: &mut [u16], slot: u32, number: u64)
     ensures highs { high.new ≡ highs_of (after_write (paired_slots high.old low.old) slot number) (surplus_high high.old low.old) }
     ensures lows { low.new ≡ lows_of (after_write (paired_slots high.old low.old) slot number) (surplus_low high.old low.old) }
 {
-    let _memory = lent_again(high, low, slot, number);
-}
-
-/// Both chips after a write, in a memory again.
-fn lent_again<'a>(high: &'a mut [u32], low: &'a mut [u16], slot: u32, number: u64) -> Paired<'a>
-    ensures lent { (result.high.ghost_name ≡ high.entry.ghost_name) × (result.low.ghost_name ≡ low.entry.ghost_name) }
-    ensures highs { result.high.now ≡ highs_of (after_write (paired_slots high.old low.old) slot number) (surplus_high high.old low.old) }
-    ensures lows { result.low.now ≡ lows_of (after_write (paired_slots high.old low.old) slot number) (surplus_low high.old low.old) }
-{
-    let (highs, lows) = put_paired(high, low, slot, number);
-    Paired::new(highs, lows)
+    let _chips = put_paired(high, low, slot, number);
 }
 
 /// Two chips after a write to their joined memory: which they are, how long, their slots and left-over bytes.
@@ -77,10 +68,13 @@ pub fn put_joined<'a, 'b>(
     slot: u32,
     number: u64,
 ) -> (&'a mut [u8], &'b mut [u8])
-    ensures lent { (result.0.ghost_name ≡ first.entry.ghost_name) × (result.1.ghost_name ≡ second.entry.ghost_name) }
-    ensures sizes { (length result.0.now ≡ length first.old) × (length result.1.now ≡ length second.old) }
+    ensures lent_first { result.0.ghost_name ≡ first.entry.ghost_name }
+    ensures lent_second { result.1.ghost_name ≡ second.entry.ghost_name }
+    ensures size_first { length result.0.now ≡ length first.old }
+    ensures size_second { length result.1.now ≡ length second.old }
     ensures slots { joined_slots (packed_slots result.0.now) (packed_slots result.1.now) ≡ after_write (joined_slots (packed_slots first.old) (packed_slots second.old)) slot number }
-    ensures left { (left_over result.0.now ≡ left_over first.old) × (left_over result.1.now ≡ left_over second.old) }
+    ensures left_first { left_over result.0.now ≡ left_over first.old }
+    ensures left_second { left_over result.1.now ≡ left_over second.old }
 {
     let memory = Joined::new(Packed::new(first), Packed::new(second));
     let memory = put(memory, slot, number);
@@ -99,6 +93,7 @@ pub struct Board<'a> {
 }
 
 /// A board's chips after a write to their joined memory.
+// Stays: what the buffers hold is known after one call that takes them, not after one on a `Board` of them (tried: by value, in one expression, by `&mut`).
 fn put_board<'a>(
     bytes: &'a mut [u8],
     high: &'a mut [u32],
@@ -106,7 +101,9 @@ fn put_board<'a>(
     slot: u32,
     number: u64,
 ) -> Board<'a>
-    ensures lent { (result.bytes.ghost_name ≡ bytes.entry.ghost_name) × (result.high.ghost_name ≡ high.entry.ghost_name) × (result.low.ghost_name ≡ low.entry.ghost_name) }
+    ensures lent_bytes { result.bytes.ghost_name ≡ bytes.entry.ghost_name }
+    ensures lent_high { result.high.ghost_name ≡ high.entry.ghost_name }
+    ensures lent_low { result.low.ghost_name ≡ low.entry.ghost_name }
     ensures slots { joined_slots (packed_slots result.bytes.now) (paired_slots result.high.now result.low.now) ≡ after_write (joined_slots (packed_slots bytes.old) (paired_slots high.old low.old)) slot number }
     ensures left { left_over result.bytes.now ≡ left_over bytes.old }
     ensures highs { surplus_high result.high.now result.low.now ≡ surplus_high high.old low.old }
