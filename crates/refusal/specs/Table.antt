@@ -1,5 +1,5 @@
 -- The table of refusals: number, place and layer of each.
-use Rattle.std.specs.Prelude.{ℕ, Some, None, Option}
+use Rattle.std.specs.Prelude.{ℕ, List, ◌++◌, Some, None, Option, codes, decimal}
 use Rattle.refusal.specs.declared.HeaderField.{HeaderField}
 use Rattle.refusal.specs.declared.HeaderField.TheVariants.{Form, TagLength, Count, Base}
 use Rattle.refusal.specs.declared.Layer.{Layer}
@@ -45,3 +45,15 @@ note_of (DraftFull put) = told 17 put Draft
 note_of (DraftShort put) = told 18 put Draft
 note_of (PastEnd count) = told 19 count Image
 note_of (Garbled at) = told 20 at Console
+
+-- ---- how a refusal is printed
+abbrev pub layer_name : Layer → List ℕ
+layer_name Image = codes "image"
+layer_name Cipher = codes "cipher"
+layer_name Memory = codes "memory"
+layer_name Unit = codes "unit"
+layer_name Draft = codes "draft"
+layer_name Console = codes "console"
+
+abbrev pub refusal_text : Note → List ℕ
+refusal_text n = codes "refused " ++ decimal n.number ++ codes " at " ++ decimal n.place ++ codes " (" ++ layer_name n.layer ++ codes ")"

@@ -1,8 +1,11 @@
 // What is not allowed is refused with a number, a place and a layer: one type for all.
 #![tactic(auto)]
 
-ghost use Rattle.std.specs.Prelude.{◌≡◌};
-ghost use Rattle.refusal.specs.Table.{bit_of, note_of};
+ghost use Rattle.std.specs.Prelude.{◌≡◌, Some};
+ghost use Rattle.refusal.specs.Table.{bit_of, note_of, layer_name, refusal_text};
+
+use std::error::Error;
+use std::fmt;
 
 /// The part of the product whose check refuses.
 #[derive(Clone, Copy, PartialEq, Eq, Debug)]
@@ -25,7 +28,7 @@ pub enum HeaderField {
 }
 
 /// Every refusal, with what its place needs.
-#[derive(Clone, Copy)]
+#[derive(Clone, Copy, PartialEq, Eq, Debug)]
 pub enum Refusal {
     // of images
     /// The image is shorter than a header.
@@ -129,6 +132,36 @@ impl Refusal {
         }
     }
 }
+
+impl fmt::Display for Layer {
+    ghost output = { λ layer. Some (layer_name layer) };
+
+    fn fmt<W: fmt::Write>(&self, f: &mut fmt::Formatter<W>) -> fmt::Result {
+        match self {
+            Layer::Image => write!(f, "image"),
+            Layer::Cipher => write!(f, "cipher"),
+            Layer::Memory => write!(f, "memory"),
+            Layer::Unit => write!(f, "unit"),
+            Layer::Draft => write!(f, "draft"),
+            Layer::Console => write!(f, "console"),
+        }
+    }
+}
+
+impl fmt::Display for Refusal {
+    ghost output = { λ refusal. Some (refusal_text (note_of refusal)) };
+
+    fn fmt<W: fmt::Write>(&self, f: &mut fmt::Formatter<W>) -> fmt::Result {
+        let Note {
+            number,
+            place,
+            layer,
+        } = self.note();
+        write!(f, "refused {number} at {place} ({layer})")
+    }
+}
+
+impl Error for Refusal {}
 
 fn told(number: u32, place: u32, layer: Layer) -> Note
     ensures { result ≡ record { number = number; place = place; layer = layer } }
