@@ -19,7 +19,7 @@ pub(crate) fn open_record<C: WordCipher>(
     index: u32,
 ) -> Option<u32>
     requires { index < header.now.count }
-    ensures { result ≡ opened (keyed_by C.rule C.mode_of C.tag_of C.key_of cipher.now) image.now (head_of header.now) index }
+    ensures { result ≡ opened (keyed_by C.WordCipher cipher.now) image.now (head_of header.now) index }
 {
     let stored = read_record(image, header, index)?;
     let address = 4 * (header.base() + index);
@@ -45,7 +45,7 @@ fn check_records<C: WordCipher>(
     length: usize,
 ) -> Result<(), Refusal>
     requires { first + length ≤ header.now.count }
-    ensures { MatchResult result (λ _. foul_from (opened (keyed_by C.rule C.mode_of C.tag_of C.key_of cipher.now) image.now (head_of header.now)) first length ≡ None) (λ e. foul_from (opened (keyed_by C.rule C.mode_of C.tag_of C.key_of cipher.now) image.now (head_of header.now)) first length ≡ Some e) }
+    ensures { MatchResult result (λ _. foul_from (opened (keyed_by C.WordCipher cipher.now) image.now (head_of header.now)) first length ≡ None) (λ e. foul_from (opened (keyed_by C.WordCipher cipher.now) image.now (head_of header.now)) first length ≡ Some e) }
 {
     for index in first..first + length as u32 {
         let Some(_) = open_record(cipher, image, header, index) else {
@@ -63,7 +63,7 @@ fn check_program<C: WordCipher>(
     first: u32,
     length: usize,
 ) -> Result<(), Refusal>
-    ensures { MatchResult result (λ _. shown_refusal (keyed_by C.rule C.mode_of C.tag_of C.key_of cipher.now) image.now (head_of header.now) first length ≡ None) (λ e. shown_refusal (keyed_by C.rule C.mode_of C.tag_of C.key_of cipher.now) image.now (head_of header.now) first length ≡ Some e) }
+    ensures { MatchResult result (λ _. shown_refusal (keyed_by C.WordCipher cipher.now) image.now (head_of header.now) first length ≡ None) (λ e. shown_refusal (keyed_by C.WordCipher cipher.now) image.now (head_of header.now) first length ≡ Some e) }
 {
     check_cipher(header, cipher)?;
     check_end(header.count(), first, length)?;
@@ -77,7 +77,7 @@ pub(crate) fn checked<C: WordCipher>(
     first: u32,
     length: usize,
 ) -> Result<Header, Refusal>
-    ensures { MatchResult result (λ h. (page_refusal (keyed_by C.rule C.mode_of C.tag_of C.key_of cipher.now) image.now first length ≡ None) × (head_of h ≡ head_in image.now)) (λ e. page_refusal (keyed_by C.rule C.mode_of C.tag_of C.key_of cipher.now) image.now first length ≡ Some e) }
+    ensures { MatchResult result (λ h. (page_refusal (keyed_by C.WordCipher cipher.now) image.now first length ≡ None) × (head_of h ≡ head_in image.now)) (λ e. page_refusal (keyed_by C.WordCipher cipher.now) image.now first length ≡ Some e) }
 {
     let header = check_image(image)?;
     match check_program(cipher, image, &header, first, length) {
@@ -93,8 +93,8 @@ pub fn check_page<C: WordCipher>(
     first: u32,
     length: usize,
 ) -> Result<(), Refusal>
-    ensures answer { MatchResult result (λ _. page_refusal (keyed_by C.rule C.mode_of C.tag_of C.key_of cipher.now) image.now first length ≡ None) (λ e. page_refusal (keyed_by C.rule C.mode_of C.tag_of C.key_of cipher.now) image.now first length ≡ Some e) }
-    ensures made { RefusedOnlyPastEnd (keyed_by C.rule C.mode_of C.tag_of C.key_of cipher.now) image.now first length }
+    ensures answer { MatchResult result (λ _. page_refusal (keyed_by C.WordCipher cipher.now) image.now first length ≡ None) (λ e. page_refusal (keyed_by C.WordCipher cipher.now) image.now first length ≡ Some e) }
+    ensures made { RefusedOnlyPastEnd (keyed_by C.WordCipher cipher.now) image.now first length }
 {
     match checked(cipher, image, first, length) {
         Ok(_) => Ok(()),

@@ -24,7 +24,7 @@ fn word_at<C: WordCipher>(
     place: usize,
 ) -> u32
     requires { first + place < header.now.count }
-    ensures { result ≡ word_at (keyed_by C.rule C.mode_of C.tag_of C.key_of cipher.now) image.now (head_of header.now) first place }
+    ensures { result ≡ word_at (keyed_by C.WordCipher cipher.now) image.now (head_of header.now) first place }
 {
     open_record(cipher, image, header, first + place as u32).unwrap_or(0)
 }
@@ -38,7 +38,7 @@ fn decrypt_words<C: WordCipher>(
     words: &mut [u32],
 )
     requires { first + length words.old ≤ header.now.count }
-    ensures { words.new ≡ shown_words (keyed_by C.rule C.mode_of C.tag_of C.key_of cipher.now) image.now (head_of header.now) first (length words.old) }
+    ensures { words.new ≡ shown_words (keyed_by C.WordCipher cipher.now) image.now (head_of header.now) first (length words.old) }
 {
     for place in 0..words.len() {
         words[place] = word_at(cipher, image, header, first, place);
@@ -47,7 +47,7 @@ fn decrypt_words<C: WordCipher>(
 
 // Puts into the words what a page from record `first` on shows.
 pub(crate) fn fill<C: WordCipher>(cipher: &C, image: &[u8], first: u32, words: &mut [u32])
-    ensures { words.new ≡ page_words (keyed_by C.rule C.mode_of C.tag_of C.key_of cipher.now) image.now first (length words.old) }
+    ensures { words.new ≡ page_words (keyed_by C.WordCipher cipher.now) image.now first (length words.old) }
 {
     match checked(cipher, image, first, words.len()) {
         Ok(header) => decrypt_words(cipher, image, &header, first, words),

@@ -29,10 +29,10 @@ impl<'a> Page<'a> {
         first: u32,
         words: &'a mut [u32],
     ) -> Page<'a>
-        ensures words { result.words.now ≡ page_words (keyed_by C.rule C.mode_of C.tag_of C.key_of cipher.now) image.now first (length words.old) }
+        ensures words { result.words.now ≡ page_words (keyed_by C.WordCipher cipher.now) image.now first (length words.old) }
         ensures lent { result.words.ghost_name ≡ words.entry.ghost_name }
-        ensures opens { ShowsDecryptions (keyed_by C.rule C.mode_of C.tag_of C.key_of cipher.now) image.now first result.words.now }
-        ensures made { ShowsWhatWasPutIn (keyed_by C.rule C.mode_of C.tag_of C.key_of cipher.now) image.now first result.words.now }
+        ensures opens { ShowsDecryptions (keyed_by C.WordCipher cipher.now) image.now first result.words.now }
+        ensures made { ShowsWhatWasPutIn (keyed_by C.WordCipher cipher.now) image.now first result.words.now }
     {
         fill(cipher, image, first, words);
         Page { words }

@@ -17,7 +17,7 @@ pub fn find_instruction<C: WordCipher>(
     instruction: u32,
     buffer: &mut [u32],
 ) -> Result<Option<usize>, Refusal>
-    ensures answer { MatchResult result (λ place. (page_refusal (keyed_by C.rule C.mode_of C.tag_of C.key_of cipher.now) image.now first (length buffer.old) ≡ None) × (place ≡ place_of instruction (page_words (keyed_by C.rule C.mode_of C.tag_of C.key_of cipher.now) image.now first (length buffer.old)))) (λ e. page_refusal (keyed_by C.rule C.mode_of C.tag_of C.key_of cipher.now) image.now first (length buffer.old) ≡ Some e) }
+    ensures answer { MatchResult result (λ place. (page_refusal (keyed_by C.WordCipher cipher.now) image.now first (length buffer.old) ≡ None) × (place ≡ place_of instruction (page_words (keyed_by C.WordCipher cipher.now) image.now first (length buffer.old)))) (λ e. page_refusal (keyed_by C.WordCipher cipher.now) image.now first (length buffer.old) ≡ Some e) }
     ensures buffer { MatchResult result (λ _. Zero buffer.new) (λ _. buffer.new ≡ buffer.old) }
 {
     check_page(cipher, image, first, buffer.len())?;

@@ -2,6 +2,7 @@
 use Rattle.std.specs.Prelude.{◌≡◌, ℕ, ◌+◌, ◌-◌, ◌*◌, ◌^◌, Bool, cond, ◌||◌, List, length, Some, None, Option, Result, MatchResult, ◌==◌, nat_le, nat_lt}
 use Rattle.bits.specs.Field.{Written}
 use Rattle.cipher.specs.declared.Mode.{Mode}
+use Rattle.cipher.specs.declared.WordCipher.{Ghosts as WordCipher}
 use Rattle.cipher.specs.Word.{Rule, tweak_of}
 use Rattle.image.specs.Layout.{Head, head_fields, head_bits, record_bits, joined, end_of, image_length}
 use Rattle.image.specs.Reading.{foreign_to, head_of}
@@ -17,8 +18,8 @@ pub record KeyedCipher : Type 0 where
   pub tag : ℕ
   pub key : ℕ
 
-abbrev pub keyed_by : {S : Type 0} → (S → Rule) → (S → Mode) → (S → ℕ) → (S → ℕ) → S → KeyedCipher
-keyed_by rule mode_of tag_of key_of s = record { rule = rule s; mode = mode_of s; tag = tag_of s; key = key_of s }
+abbrev pub keyed_by : {S : Type 0} → WordCipher S → S → KeyedCipher
+keyed_by w s = record { rule = w.rule s; mode = w.mode_of s; tag = w.tag_of s; key = w.key_of s }
 
 -- the stored number of an instruction, for a version and an address in words
 abbrev pub encryption : KeyedCipher → ℕ → ℕ → ℕ → ℕ

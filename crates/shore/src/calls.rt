@@ -20,7 +20,7 @@ impl Draft {
         count: u32,
         buffer: &mut [u8],
     ) -> Result<Draft, Refusal>
-        ensures { Opens (keyed_by C.rule C.mode_of C.tag_of C.key_of cipher.now) version base count buffer.old buffer.new result }
+        ensures { Opens (keyed_by C.WordCipher cipher.now) version base count buffer.old buffer.new result }
     {
         if version == 0 {
             return Err(Refusal::BadDraft);
@@ -41,7 +41,7 @@ impl Draft {
         instruction: u32,
         buffer: &mut [u8],
     ) -> Result<Draft, (Draft, Refusal)>
-        ensures { Puts (keyed_by C.rule C.mode_of C.tag_of C.key_of cipher.now) self instruction buffer.old buffer.new result }
+        ensures { Puts (keyed_by C.WordCipher cipher.now) self instruction buffer.old buffer.new result }
     {
         let header = self.header();
         let put = self.words_put();
@@ -98,7 +98,7 @@ fn check_room(header: &Header, buffer: &[u8]) -> Result<(), Refusal>
 // The stored number of the instruction of a place.
 fn stored_word<C: WordCipher>(cipher: &C, header: &Header, index: u32, instruction: u32) -> u64
     requires { index < header.now.count }
-    ensures { result ≡ encryption (keyed_by C.rule C.mode_of C.tag_of C.key_of cipher.now) header.now.version (header.now.base + index) instruction }
+    ensures { result ≡ encryption (keyed_by C.WordCipher cipher.now) header.now.version (header.now.base + index) instruction }
 {
     let address = 4 * (header.base() + index);
     cipher.encrypt(tweak_of(header.version(), address), instruction)

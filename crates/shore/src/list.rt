@@ -16,9 +16,9 @@ pub fn make_image<C: WordCipher>(
     instructions: &[u32],
     buffer: &mut [u8],
 ) -> Result<ClosedDraft, Refusal>
-    ensures answer { Lists (keyed_by C.rule C.mode_of C.tag_of C.key_of cipher.now) version base instructions.now buffer.old buffer.new result }
-    ensures made { IfOk result (λ closed. Made (keyed_by C.rule C.mode_of C.tag_of C.key_of cipher.now) version base instructions.now (take closed.length buffer.new)) }
-    ensures image { IfOk result (λ closed. take closed.length buffer.new ≡ image_of (keyed_by C.rule C.mode_of C.tag_of C.key_of cipher.now) version base instructions.now) }
+    ensures answer { Lists (keyed_by C.WordCipher cipher.now) version base instructions.now buffer.old buffer.new result }
+    ensures made { IfOk result (λ closed. Made (keyed_by C.WordCipher cipher.now) version base instructions.now (take closed.length buffer.new)) }
+    ensures image { IfOk result (λ closed. take closed.length buffer.new ≡ image_of (keyed_by C.WordCipher cipher.now) version base instructions.now) }
     ensures kept { IfOk result (λ closed. KeptPast closed.length buffer.old buffer.new) }
 {
     draft_all(cipher, version, base, instructions, buffer)
@@ -32,7 +32,7 @@ fn draft_all<C: WordCipher>(
     instructions: &[u32],
     buffer: &mut [u8],
 ) -> Result<ClosedDraft, Refusal>
-    ensures { MatchResult result (Chain (keyed_by C.rule C.mode_of C.tag_of C.key_of cipher.now) version base instructions.now buffer.old buffer.new) (λ e. (open_refusal (keyed_by C.rule C.mode_of C.tag_of C.key_of cipher.now) version base (length instructions.now) buffer.old ≡ Some e) × (buffer.new ≡ buffer.old)) }
+    ensures { MatchResult result (Chain (keyed_by C.WordCipher cipher.now) version base instructions.now buffer.old buffer.new) (λ e. (open_refusal (keyed_by C.WordCipher cipher.now) version base (length instructions.now) buffer.old ≡ Some e) × (buffer.new ≡ buffer.old)) }
 {
     if instructions.len() > 0xF_FFFF {
         return Err(Refusal::BadDraft);
@@ -53,8 +53,8 @@ fn put_all<C: WordCipher>(
     instructions: &[u32],
     buffer: &mut [u8],
 ) -> Result<Draft, Refusal>
-    requires { (foreign (keyed_by C.rule C.mode_of C.tag_of C.key_of cipher.now) (draft_head draft) ≡ false) × ((draft.put + length instructions.now ≤ (draft_head draft).count) × (image_length (draft_head draft) ≤ length buffer.old)) }
-    ensures all { MatchResult result (λ e. PutAll (keyed_by C.rule C.mode_of C.tag_of C.key_of cipher.now) draft buffer.old instructions.now e buffer.new) (λ _. ⊥) }
+    requires { (foreign (keyed_by C.WordCipher cipher.now) (draft_head draft) ≡ false) × ((draft.put + length instructions.now ≤ (draft_head draft).count) × (image_length (draft_head draft) ≤ length buffer.old)) }
+    ensures all { MatchResult result (λ e. PutAll (keyed_by C.WordCipher cipher.now) draft buffer.old instructions.now e buffer.new) (λ _. ⊥) }
     ensures full { IfOk result (λ e. (draft_head e ≡ draft_head draft) × (e.put ≡ draft.put + length instructions.now)) }
 {
     let mut draft = draft;

@@ -7,7 +7,7 @@ pub returns-in-Ok : goal.returns-in-Ok
 returns-in-Ok g c =
     let w = g.C.WordCipher in
     let x = c.args.cipher.now in
-    let k : KeyedCipher = keyed_by w.rule w.mode_of w.tag_of w.key_of x in
+    let k : KeyedCipher = keyed_by w x in
     record {
       answer = c.in-Ok.ensures.0;
       made = refused_only_past_end k (g.met.C.WordCipher.fitting x) (g.met.C.WordCipher.lawful x) (g.met.C.WordCipher.keyed x) c.args.image.now (λ i. omega (arith, c.type_inv.image i))
@@ -18,7 +18,7 @@ pub returns-in-Err : goal.returns-in-Err
 returns-in-Err g c =
     let w = g.C.WordCipher in
     let x = c.args.cipher.now in
-    let k : KeyedCipher = keyed_by w.rule w.mode_of w.tag_of w.key_of x in
+    let k : KeyedCipher = keyed_by w x in
     record {
       answer = c.in-Err.ensures;
       made = refused_only_past_end k (g.met.C.WordCipher.fitting x) (g.met.C.WordCipher.lawful x) (g.met.C.WordCipher.keyed x) c.args.image.now (λ i. omega (arith, c.type_inv.image i))

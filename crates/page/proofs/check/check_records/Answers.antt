@@ -12,19 +12,19 @@ pub returns-in_default : goal.returns-in_default
 returns-in_default g c =
     let w = g.C.WordCipher in
     let a = c.args in
-    let opens = opened (keyed_by w.rule w.mode_of w.tag_of w.key_of a.cipher.now) a.image.now (head_of a.header.now) in
+    let opens = opened (keyed_by w a.cipher.now) a.image.now (head_of a.header.now) in
     try_here opens a.first a.length c.loop-index.index (omega (arith, c.loop-index-test.true)) c.loop-index.invariant c.in_default.ensures
 
 pub loop-index-preserved : goal.loop-index-preserved
 loop-index-preserved g c =
     let w = g.C.WordCipher in
     let a = c.args in
-    let opens = opened (keyed_by w.rule w.mode_of w.tag_of w.key_of a.cipher.now) a.image.now (head_of a.header.now) in
+    let opens = opened (keyed_by w a.cipher.now) a.image.now (head_of a.header.now) in
     try_next opens a.first a.length c.loop-index.index c.in-Some.field-0 (omega (arith, c.loop-index-test.true)) c.loop-index.invariant c.in-Some.ensures
 
 pub returns : goal.returns
 returns g c =
     let w = g.C.WordCipher in
     let a = c.args in
-    let opens = opened (keyed_by w.rule w.mode_of w.tag_of w.key_of a.cipher.now) a.image.now (head_of a.header.now) in
+    let opens = opened (keyed_by w a.cipher.now) a.image.now (head_of a.header.now) in
     try_last opens a.first a.length c.loop-index.index (omega (arith, c.loop-index-test.false)) c.loop-index.invariant

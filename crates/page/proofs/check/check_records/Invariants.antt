@@ -8,5 +8,5 @@ use Rattle.page.proofs.check.check_records.Given as goal
 abbrev pub invariant-loop-index : goal.invariant-loop-index
 invariant-loop-index g l =
     let w = g.C.WordCipher in
-    let opens = opened (keyed_by w.rule w.mode_of w.tag_of w.key_of l.cipher) l.image (head_of l.header) in
+    let opens = opened (keyed_by w l.cipher) l.image (head_of l.header) in
     foul_from opens l.index (l.first + l.length - l.index) ≡ foul_from opens l.first l.length

@@ -10,7 +10,7 @@ pub loop-place-preserved : goal.loop-place-preserved
 loop-place-preserved g c =
     let w = g.C.WordCipher in
     let a = c.args in
-    let f = word_at (keyed_by w.rule w.mode_of w.tag_of w.key_of a.cipher.now) a.image.now (head_of a.header.now) a.first in (
+    let f = word_at (keyed_by w a.cipher.now) a.image.now (head_of a.header.now) a.first in (
       simp length-set c.loop-place.invariant.0,
       one_more f c.loop-place.words c.loop-place.place _ (omega (arith, c.loop-place.invariant.0)) c.word_at.ensures c.loop-place.invariant.1,
     )
@@ -19,5 +19,5 @@ pub returns : goal.returns
 returns g c =
     let w = g.C.WordCipher in
     let a = c.args in
-    let f = word_at (keyed_by w.rule w.mode_of w.tag_of w.key_of a.cipher.now) a.image.now (head_of a.header.now) a.first in
+    let f = word_at (keyed_by w a.cipher.now) a.image.now (head_of a.header.now) a.first in
     fill_by_all f c.loop-place.words (length a.words.now) 0 c.loop-place.invariant.0 (λ k l. c.loop-place.invariant.1 k (omega (arith, c.loop-place-test.false)))

@@ -8,7 +8,7 @@ pub returns : goal.returns
 returns g c =
     let w = g.C.WordCipher in
     let x = c.args.cipher.now in
-    let k : KeyedCipher = keyed_by w.rule w.mode_of w.tag_of w.key_of x in
+    let k : KeyedCipher = keyed_by w x in
     let v : ℕ = c.args.version in
     let b : ℕ = c.args.base in
     let is : List ℕ = c.args.instructions.now in

@@ -9,7 +9,7 @@ loop-instruction-init g c = reached_none _ c.args.instructions.now c.args.draft 
 pub returns-in-Err : goal.returns-in-Err
 returns-in-Err g c =
     let w = g.C.WordCipher in
-    let k : KeyedCipher = keyed_by w.rule w.mode_of w.tag_of w.key_of c.args.cipher.now in
+    let k : KeyedCipher = keyed_by w c.args.cipher.now in
     let none = never_refused k c.args.instructions.now c.args.draft c.args.buffer.now c.loop-instruction.instruction-index c.loop-instruction.draft c.loop-instruction.buffer
     c.requires.0 c.requires.1.0 (omega (arith, c.requires.1.1, c.loop-instruction.auto.buffer)) (omega arith) c.loop-instruction.invariant in
     let some = c.in-Err.ensures.0 in
@@ -19,6 +19,6 @@ returns-in-Err g c =
 pub loop-instruction-preserved : goal.loop-instruction-preserved
 loop-instruction-preserved g c =
     let w = g.C.WordCipher in
-    let k : KeyedCipher = keyed_by w.rule w.mode_of w.tag_of w.key_of c.args.cipher.now in
+    let k : KeyedCipher = keyed_by w c.args.cipher.now in
     reached_more k c.args.instructions.now c.args.draft c.args.buffer.now c.loop-instruction.instruction-index c.loop-instruction.draft c.loop-instruction.buffer
     _ c.in-Ok.next c.put.new.buffer (omega arith) refl c.loop-instruction.invariant c.in-Ok.ensures

@@ -5,4 +5,4 @@ use Rattle.shore.proofs.list.put_all.Given as goal
 abbrev pub invariant-loop-instruction : goal.invariant-loop-instruction
 invariant-loop-instruction g l =
     let w = g.C.WordCipher in
-    Reached (keyed_by w.rule w.mode_of w.tag_of w.key_of l.cipher) l.instructions l.initial.draft l.initial.buffer l.instruction-index l.draft l.buffer
+    Reached (keyed_by w l.cipher) l.instructions l.initial.draft l.initial.buffer l.instruction-index l.draft l.buffer

@@ -7,7 +7,7 @@ pub returns : goal.returns
 returns g c =
     let w = g.C.WordCipher in
     let x = c.args.cipher.now in
-    let k : KeyedCipher = keyed_by w.rule w.mode_of w.tag_of w.key_of x in
+    let k : KeyedCipher = keyed_by w x in
     record {
       words = c.fill.ensures;
       lent = refl;
