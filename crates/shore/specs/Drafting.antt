@@ -10,6 +10,7 @@ use Rattle.refusal.specs.declared.Refusal.{Refusal}
 use Rattle.refusal.specs.declared.Refusal.TheVariants.{Foreign, BadDraft, ShortBuffer, DraftFull, DraftShort}
 use Rattle.shore.specs.declared.draft.Draft.{Draft}
 use Rattle.shore.specs.declared.draft.ClosedDraft.{ClosedDraft}
+use Rattle.shore.specs.declared.draft.HandedBack.{HandedBack}
 
 -- a cipher under its key, as the calls use it
 pub record KeyedCipher : Type 0 where
@@ -64,8 +65,8 @@ close_refusal d buffer =
 
 -- ---- what each call does: a buffer before and after it, and its answer
 -- a refusal that hands the draft back: the draft and the buffer are as they were
-abbrev pub Refused : Option Refusal → Draft → List ℕ → List ℕ → Draft × Refusal → Type 0
-Refused row d before after e = (row ≡ Some e.1) × (e.0 ≡ d) × (after ≡ before)
+abbrev pub Refused : Option Refusal → Draft → List ℕ → List ℕ → HandedBack → Type 0
+Refused row d before after e = (row ≡ Some e.refusal) × (e.draft ≡ d) × (after ≡ before)
 
 -- a draft with no word put, and the header written
 pub record Opened (c : KeyedCipher) (version base count : ℕ) (before after : List ℕ) (d : Draft) : Type 0 where
@@ -86,7 +87,7 @@ pub record Advanced (c : KeyedCipher) (d : Draft) (instruction : ℕ) (before af
   pub more : next.put ≡ d.put + 1
   pub written : Written before after (head_bits + d.put * record_bits (draft_head d)) (record_bits (draft_head d)) (encryption c (draft_head d).version ((draft_head d).base + d.put) instruction)
 
-abbrev pub Puts : KeyedCipher → Draft → ℕ → List ℕ → List ℕ → Result Draft (Draft × Refusal) → Type 0
+abbrev pub Puts : KeyedCipher → Draft → ℕ → List ℕ → List ℕ → Result Draft HandedBack → Type 0
 Puts c d instruction before after r =
     MatchResult r (Advanced c d instruction before after) (Refused (put_refusal c d before) d before after)
 
@@ -103,5 +104,5 @@ pub record Closed (d : Draft) (before after : List ℕ) (closed : ClosedDraft) :
   pub told : Tells (draft_head d) closed
   pub written : Written before after (end_of (draft_head d)) (8 * image_length (draft_head d) - end_of (draft_head d)) 0
 
-abbrev pub Closes : Draft → List ℕ → List ℕ → Result ClosedDraft (Draft × Refusal) → Type 0
+abbrev pub Closes : Draft → List ℕ → List ℕ → Result ClosedDraft HandedBack → Type 0
 Closes d before after r = MatchResult r (Closed d before after) (Refused (close_refusal d before) d before after)

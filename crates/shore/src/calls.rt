@@ -4,7 +4,7 @@ ghost use Rattle.image.specs.Reading.{head_of};
 ghost use Rattle.shore.specs.Drafting.{keyed_by, short_refusal, encryption, Opens, Puts, Closes};
 ghost use Rattle.shore.specs.Making.{MadeIsImage};
 
-use crate::draft::{ClosedDraft, Draft};
+use crate::draft::{ClosedDraft, Draft, HandedBack};
 use crate::write::{write_header, write_pad, write_record};
 use cipher::{WordCipher, tweak_of};
 use image::check::is_foreign;
@@ -40,19 +40,19 @@ impl Draft {
         cipher: &C,
         instruction: u32,
         buffer: &mut [u8],
-    ) -> Result<Draft, (Draft, Refusal)>
+    ) -> Result<Draft, HandedBack>
         ensures { Puts (keyed_by C.WordCipher cipher.now) self instruction buffer.old buffer.new result }
     {
         let header = self.header();
         let put = self.words_put();
         if put >= header.count() {
-            return Err((self, Refusal::DraftFull { put }));
+            return Err(self.handed_back(Refusal::DraftFull { put }));
         }
         if is_foreign(&header, cipher) {
-            return Err((self, Refusal::Foreign));
+            return Err(self.handed_back(Refusal::Foreign));
         }
         if let Err(refusal) = check_room(&header, buffer) {
-            return Err((self, refusal));
+            return Err(self.handed_back(refusal));
         }
         let stored = stored_word(cipher, &header, put, instruction);
         write_record(&header, put, stored, buffer);
@@ -60,23 +60,23 @@ impl Draft {
     }
 
     /// Closes the draft: the pad bits are then zero, and the image is whole.
-    pub fn close(self, buffer: &mut [u8]) -> Result<ClosedDraft, (Draft, Refusal)>
+    pub fn close(self, buffer: &mut [u8]) -> Result<ClosedDraft, HandedBack>
         ensures answer { Closes self buffer.old buffer.new result }
         ensures image { MadeIsImage }
     {
         self.finish(buffer)
     }
 
-    fn finish(self, buffer: &mut [u8]) -> Result<ClosedDraft, (Draft, Refusal)>
+    fn finish(self, buffer: &mut [u8]) -> Result<ClosedDraft, HandedBack>
         ensures { Closes self buffer.old buffer.new result }
     {
         let header = self.header();
         let put = self.words_put();
         if put < header.count() {
-            return Err((self, Refusal::DraftShort { put }));
+            return Err(self.handed_back(Refusal::DraftShort { put }));
         }
         if let Err(refusal) = check_room(&header, buffer) {
-            return Err((self, refusal));
+            return Err(self.handed_back(refusal));
         }
         write_pad(&header, buffer);
         Ok(ClosedDraft::of(&header))

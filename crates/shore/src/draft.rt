@@ -4,6 +4,7 @@ ghost use Rattle.image.specs.Layout.{image_length};
 ghost use Rattle.image.specs.Reading.{head_of};
 
 use image::header::Header;
+use refusal::Refusal;
 
 /// An image that is being made: its header, and how many of its words are put.
 #[derive(Drop)]
@@ -11,6 +12,13 @@ pub struct Draft {
     header: Header,
     put: u32,
     ghost few: { put ≤ header.count },
+}
+
+/// A draft that a call refused, as it was, and the refusal.
+#[derive(Drop)]
+pub struct HandedBack {
+    pub draft: Draft,
+    pub refusal: Refusal,
 }
 
 /// An image that is made: the version, the first address in words, the number of words and the length in bytes.
@@ -43,6 +51,15 @@ impl Draft {
         Draft { header, put: 0 }
     }
 
+    pub(crate) fn handed_back(self, refusal: Refusal) -> HandedBack
+        ensures { result ≡ record { draft = self; refusal = refusal } }
+    {
+        HandedBack {
+            draft: self,
+            refusal,
+        }
+    }
+
     pub(crate) fn with_one_more(self) -> Draft
         requires { self.put < self.header.count }
         ensures header { result.header ≡ self.header }
@@ -52,6 +69,14 @@ impl Draft {
             header: self.header,
             put: self.put + 1,
         }
+    }
+}
+
+impl From<HandedBack> for Refusal {
+    ghost from_gives = { λ back refusal. refusal ≡ back.refusal };
+
+    fn from(back: HandedBack) -> Refusal {
+        back.refusal
     }
 }
 

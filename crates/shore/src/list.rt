@@ -40,10 +40,7 @@ fn draft_all<C: WordCipher>(
     let count = instructions.len() as u32;
     let opened = Draft::open(cipher, version, base, count, buffer)?;
     let filled = put_all(opened, cipher, instructions, buffer)?;
-    match filled.close(buffer) {
-        Ok(closed) => Ok(closed),
-        Err(back) => Err(refusal_of(back)),
-    }
+    Ok(filled.close(buffer)?)
 }
 
 // Puts the instructions one after the other, where there is room for all of them.
@@ -53,24 +50,15 @@ fn put_all<C: WordCipher>(
     instructions: &[u32],
     buffer: &mut [u8],
 ) -> Result<Draft, Refusal>
-    requires { (foreign (keyed_by C.WordCipher cipher.now) (draft_head draft) ≡ false) × ((draft.put + length instructions.now ≤ (draft_head draft).count) × (image_length (draft_head draft) ≤ length buffer.old)) }
+    requires own { foreign (keyed_by C.WordCipher cipher.now) (draft_head draft) ≡ false }
+    requires few { draft.put + length instructions.now ≤ (draft_head draft).count }
+    requires room { image_length (draft_head draft) ≤ length buffer.old }
     ensures all { MatchResult result (λ e. PutAll (keyed_by C.WordCipher cipher.now) draft buffer.old instructions.now e buffer.new) (λ _. ⊥) }
     ensures full { IfOk result (λ e. (draft_head e ≡ draft_head draft) × (e.put ≡ draft.put + length instructions.now)) }
 {
     let mut draft = draft;
     for instruction in instructions {
-        match draft.put(cipher, *instruction, buffer) {
-            Ok(next) => draft = next,
-            Err(back) => return Err(refusal_of(back)),
-        }
+        draft = draft.put(cipher, *instruction, buffer)?;
     }
     Ok(draft)
-}
-
-// The refusal, without the draft that comes with it.
-fn refusal_of(back: (Draft, Refusal)) -> Refusal
-    ensures { result ≡ back.1 }
-{
-    let (_draft, refusal) = back;
-    refusal
 }

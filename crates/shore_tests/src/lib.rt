@@ -94,9 +94,8 @@ mod tests {
         match draft.put(cipher, 5, buffer) {
             Ok(_) => Err(Fail::new("a word is put that must be refused")),
             Err(back) => {
-                let (same, refusal) = back;
-                told(rt, refusal, number, place, layer)?;
-                Ok(same)
+                told(rt, back.refusal, number, place, layer)?;
+                Ok(back.draft)
             }
         }
     }
@@ -111,9 +110,8 @@ mod tests {
         match draft.close(buffer) {
             Ok(_) => Err(Fail::new("a draft is closed that must be refused")),
             Err(back) => {
-                let (same, refusal) = back;
-                told(rt, refusal, number, place, Layer::Draft)?;
-                Ok(same)
+                told(rt, back.refusal, number, place, Layer::Draft)?;
+                Ok(back.draft)
             }
         }
     }

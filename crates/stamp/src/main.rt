@@ -4,7 +4,7 @@
 use chilow::word_cipher::ChiLow;
 use cipher::{Mode, WordCipher};
 use refusal::Refusal;
-use shore::draft::{ClosedDraft, Draft};
+use shore::draft::Draft;
 use std::io;
 
 const KEY: u128 = 0x2B7E_1516_28AE_D2A6_ABF7_1588_09CF_4F3C;
@@ -29,29 +29,8 @@ fn make(buffer: &mut [u8]) -> Result<u32, Refusal> {
     let mut cipher = ChiLow::new(Mode::Tagged, 16)?;
     cipher.load(KEY);
     let empty = Draft::open(&cipher, 7, 0x400, 2, buffer)?;
-    let begun = went_on(empty.put(&cipher, 0x00A0_0513, buffer))?;
-    let full = went_on(begun.put(&cipher, 0x0000_0593, buffer))?;
-    let closed = ended(full.close(buffer))?;
+    let begun = empty.put(&cipher, 0x00A0_0513, buffer)?;
+    let full = begun.put(&cipher, 0x0000_0593, buffer)?;
+    let closed = full.close(buffer)?;
     Ok(closed.length())
-}
-
-/// The next state of a draft, or the refusal without the state that comes with it.
-fn went_on(put: Result<Draft, (Draft, Refusal)>) -> Result<Draft, Refusal> {
-    match put {
-        Ok(next) => Ok(next),
-        Err(back) => Err(refusal_of(back)),
-    }
-}
-
-/// The closed draft, or the refusal likewise.
-fn ended(close: Result<ClosedDraft, (Draft, Refusal)>) -> Result<ClosedDraft, Refusal> {
-    match close {
-        Ok(closed) => Ok(closed),
-        Err(back) => Err(refusal_of(back)),
-    }
-}
-
-fn refusal_of(back: (Draft, Refusal)) -> Refusal {
-    let (_draft, refusal) = back;
-    refusal
 }

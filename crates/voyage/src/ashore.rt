@@ -1,5 +1,5 @@
 // Ashore: the images that go to sea.
-use crate::show::{Told, print_bytes};
+use crate::show::print_bytes;
 use cipher::WordCipher;
 use image::check::{check_image, read_record};
 use refusal::Refusal;
@@ -125,31 +125,19 @@ fn draft<C: WordCipher>(
     version: u32,
     program: &[u32; 8],
     buffer: &mut [u8],
-) -> Result<ClosedDraft, Told> {
+) -> Result<ClosedDraft, Refusal> {
     let mut draft = Draft::open(cipher, version, BASE, 8, buffer)?;
     for instruction in program {
-        match draft.put(cipher, *instruction, buffer) {
-            Ok(next) => draft = next,
-            Err(back) => return Err(told_of(back)),
-        }
+        draft = draft.put(cipher, *instruction, buffer)?;
     }
-    match draft.close(buffer) {
-        Ok(closed) => Ok(closed),
-        Err(back) => Err(told_of(back)),
-    }
-}
-
-/// The refusal, without the draft that comes with it.
-fn told_of(back: (Draft, Refusal)) -> Told {
-    let (_draft, refusal) = back;
-    refusal.into()
+    Ok(draft.close(buffer)?)
 }
 
 fn make_at_once<C: WordCipher>(
     cipher: &C,
     version: u32,
     program: &[u32; 8],
-) -> Result<Image, Told> {
+) -> Result<Image, Refusal> {
     let mut buffer = [0u8; 64];
     let closed = make_image(cipher, version, BASE, program, &mut buffer)?;
     Ok(Image {
