@@ -1,5 +1,5 @@
 -- A word cipher, by its meaning.
-use Rattle.std.specs.Prelude.{◌≡◌, ℕ, zero, suc, ◌+◌, ◌*◌, ◌^◌, ◌<◌, Bool, cond, ◌&&◌, Some, None, Option, ◌==◌, nat_le}
+use Rattle.std.specs.Prelude.{◌≡◌, ℕ, zero, suc, ◌+◌, ◌*◌, ◌^◌, ◌<◌, Bool, true, false, cond, ◌&&◌, Some, None, Option, ◌==◌, nat_le}
 use Rattle.cipher.specs.declared.Mode.{Mode}
 use Rattle.cipher.specs.declared.Mode.TheVariants.{Tagged, Block}
 
@@ -7,6 +7,11 @@ use Rattle.cipher.specs.declared.Mode.TheVariants.{Tagged, Block}
 abbrev pub mode_number : Mode → ℕ
 mode_number Tagged = 0
 mode_number Block = 1
+
+-- the mode of a bit
+abbrev pub mode_of_bit : Bool → Mode
+mode_of_bit true = Block
+mode_of_bit false = Tagged
 
 -- which tag lengths a mode can have
 abbrev pub fits_mode : Mode → ℕ → Bool

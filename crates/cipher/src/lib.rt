@@ -1,9 +1,13 @@
 // A word cipher, by its meaning: what a unit and a shore tool know of it.
 #![tactic(auto)]
 
-ghost use Rattle.std.specs.Prelude.{◌≡◌, ℕ, ◌^◌, ◌<◌, true, is_some, Some, ◌==◌};
+ghost use Rattle.std.specs.Prelude.{◌≡◌, ℕ, ◌^◌, ◌<◌, true};
 ghost use Rattle.cipher.specs.declared.Mode.{Mode as ModeOf};
-ghost use Rattle.cipher.specs.Word.{mode_number, fits_mode, tweak_of, Rule, decrypted, Lawful, LawsFixDecryption};
+ghost use Rattle.cipher.specs.Word.{mode_number, mode_of_bit, fits_mode, tweak_of, Rule, decrypted, Lawful};
+
+mod laws;
+
+pub use laws::{genuine, round_trip};
 
 /// Where the tag stands: beside the ciphertext, or inside the block.
 #[derive(Clone, Copy, PartialEq, Eq, Debug)]
@@ -18,19 +22,30 @@ impl Mode {
         ensures { result ≡ fits_mode self tag_length }
     {
         match self {
-            Mode::Tagged => 8 <= tag_length && tag_length <= 16,
+            Mode::Tagged => matches!(tag_length, 8..=16),
             Mode::Block => tag_length == 8,
         }
     }
+}
 
-    /// The number of the mode, 0 or 1.
-    pub fn number(self) -> u32
-        ensures { result ≡ mode_number self }
-    {
-        match self {
+/// The number of the mode, 0 or 1.
+impl From<Mode> for u64 {
+    ghost from_gives = { λ mode number. number ≡ mode_number mode };
+
+    fn from(mode: Mode) -> u64 {
+        match mode {
             Mode::Tagged => 0,
             Mode::Block => 1,
         }
+    }
+}
+
+/// The mode of a header's bit: the tag is inside the block where it is set.
+impl From<bool> for Mode {
+    ghost from_gives = { λ bit mode. mode ≡ mode_of_bit bit };
+
+    fn from(bit: bool) -> Mode {
+        if bit { Mode::Block } else { Mode::Tagged }
     }
 }
 
@@ -79,34 +94,4 @@ pub fn tweak_of(version: u32, address: u32) -> u64
     ensures { result ≡ tweak_of version address }
 {
     version as u64 * 0x1_0000_0000 + address as u64
-}
-
-/// What becomes of an instruction that is encrypted and decrypted again: it comes back.
-pub fn round_trip<C: WordCipher>(cipher: &C, tweak: u64, instruction: u32) -> Option<u32>
-    ensures { result ≡ Some instruction }
-{
-    read_back(cipher, tweak, instruction)
-}
-
-fn read_back<C: WordCipher>(cipher: &C, tweak: u64, instruction: u32) -> Option<u32>
-    ensures { result ≡ decrypted (C.rule cipher.now (C.key_of cipher.now) (C.mode_of cipher.now) (C.tag_of cipher.now) tweak) (C.rule cipher.now (C.key_of cipher.now) (C.mode_of cipher.now) (C.tag_of cipher.now) tweak instruction) }
-{
-    cipher.decrypt(tweak, cipher.encrypt(tweak, instruction))
-}
-
-/// Whether a stored number is the encryption of what it decrypts to: it is, unless it is rejected.
-pub fn genuine<C: WordCipher>(cipher: &C, tweak: u64, stored: u64) -> bool
-    ensures decrypts { result ≡ is_some (decrypted (C.rule cipher.now (C.key_of cipher.now) (C.mode_of cipher.now) (C.tag_of cipher.now) tweak) stored) }
-    ensures fixed { LawsFixDecryption }
-{
-    match cipher.decrypt(tweak, stored) {
-        Some(instruction) => encrypts_to(cipher, tweak, instruction, stored),
-        None => false,
-    }
-}
-
-fn encrypts_to<C: WordCipher>(cipher: &C, tweak: u64, instruction: u32, stored: u64) -> bool
-    ensures { result ≡ (C.rule cipher.now (C.key_of cipher.now) (C.mode_of cipher.now) (C.tag_of cipher.now) tweak instruction == stored) }
-{
-    cipher.encrypt(tweak, instruction) == stored
 }

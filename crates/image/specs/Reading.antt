@@ -1,10 +1,9 @@
 -- Reading an image: its header, its records, and the first refusal that fits it.
-use Rattle.std.specs.Prelude.{ℕ, zero, suc, ◌+◌, ◌-◌, ◌*◌, ◌^◌, Bool, cond, not, ◌&&◌, List, map, length, Some, None, Option, ◌==◌, nat_lt}
+use Rattle.std.specs.Prelude.{ℕ, ◌+◌, ◌-◌, ◌*◌, ◌^◌, Bool, cond, not, ◌&&◌, List, map, length, Some, None, Option, ◌==◌, nat_lt}
 use Rattle.std.specs.List.{range_with_len}
 use Rattle.bits.specs.Field.{field}
 use Rattle.cipher.specs.declared.Mode.{Mode}
-use Rattle.cipher.specs.declared.Mode.TheVariants.{Tagged, Block}
-use Rattle.cipher.specs.Word.{mode_number, fits_mode}
+use Rattle.cipher.specs.Word.{mode_number, mode_of_bit, fits_mode}
 use Rattle.refusal.specs.declared.HeaderField.TheVariants.{Form, TagLength, Count, Base}
 use Rattle.refusal.specs.declared.Refusal.{Refusal}
 use Rattle.refusal.specs.declared.Refusal.TheVariants.{Stub, BadHeader, Misfit, Foreign}
@@ -12,8 +11,7 @@ use Rattle.image.specs.declared.header.Header.{Header}
 use Rattle.image.specs.Layout.{Head, form_at, form_bits, mode_at, mode_bits, tag_at, tag_bits, version_at, version_bits, base_at, base_bits, count_at, count_bits, head_bits, record_bits, end_of, image_length}
 
 abbrev pub mode_from : ℕ → Mode
-mode_from zero = Tagged
-mode_from (suc _) = Block
+mode_from bit = mode_of_bit (not (bit == 0))
 
 -- the header in the first 66 bits
 abbrev pub head_in : List ℕ → Head

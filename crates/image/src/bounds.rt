@@ -1,6 +1,7 @@
 // Making a header from its fields.
 ghost use Rattle.std.specs.Prelude.{◌≡◌, true, false, MatchOption};
 ghost use Rattle.image.specs.Laws.{proper_head};
+ghost use Rattle.image.specs.Layout.{Head};
 ghost use Rattle.image.specs.Reading.{head_of};
 
 use crate::header::Header;
@@ -9,17 +10,20 @@ use cipher::Mode;
 impl Header {
     /// A header with these fields, or nothing where one is out of bounds.
     pub fn new(mode: Mode, tag_length: u32, version: u32, base: u32, count: u32) -> Option<Header>
-        ensures { MatchOption result (proper_head (record { mode = mode; tag = tag_length; version = version; base = base; count = count }) ≡ false) (λ h. (proper_head (record { mode = mode; tag = tag_length; version = version; base = base; count = count }) ≡ true) × (head_of h ≡ record { mode = mode; tag = tag_length; version = version; base = base; count = count })) }
+        ensures { let asked : Head = record { mode = mode; tag = tag_length; version = version; base = base; count = count } in MatchOption result (proper_head asked ≡ false) (λ header. (proper_head asked ≡ true) × (head_of header ≡ asked)) }
     {
         if !mode.fits(tag_length) || version >= 256 {
             return None;
         }
-        if count == 0 || count >= 0x10_0000 {
+        if !matches!(count, 1..0x10_0000) || base > 0x4000_0000 - count {
             return None;
         }
-        if base > 0x4000_0000 - count {
-            return None;
-        }
-        Some(Header::of(mode, tag_length, version, base, count))
+        Some(Header {
+            mode,
+            tag_length,
+            version,
+            base,
+            count,
+        })
     }
 }

@@ -1,7 +1,7 @@
 // Checking an image, and reading its records.
 ghost use Rattle.std.specs.Prelude.{◌≡◌, ◌<◌, Some, None, MatchResult};
 ghost use Rattle.image.specs.Laws.{LayoutIsRead, OnlyLayoutIsRead};
-ghost use Rattle.image.specs.Reading.{mode_from, head_in, head_of, record_in, record_at, pad_in, head_refusal, fit_refusal, foreign_to, foreign_refusal, refusal_of};
+ghost use Rattle.image.specs.Reading.{head_in, head_of, record_in, record_at, pad_in, head_refusal, fit_refusal, foreign_to, foreign_refusal, refusal_of};
 
 use crate::header::Header;
 use bits::field::read_field;
@@ -20,7 +20,7 @@ pub fn read_header(bytes: &[u8]) -> Result<Header, Refusal>
     if read_field(bytes, 0, 2) != 0 {
         return Err(Refusal::BadHeader(HeaderField::Form));
     }
-    let mode = mode_from(read_field(bytes, 2, 1));
+    let mode = Mode::from(read_field(bytes, 2, 1) != 0);
     let tag_length = read_field(bytes, 3, 5) as u32;
     if !mode.fits(tag_length) {
         return Err(Refusal::BadHeader(HeaderField::TagLength));
@@ -34,29 +34,33 @@ pub fn read_header(bytes: &[u8]) -> Result<Header, Refusal>
     if base + count > 0x4000_0000 {
         return Err(Refusal::BadHeader(HeaderField::Base));
     }
-    Ok(Header::of(mode, tag_length, version, base, count))
+    Ok(Header {
+        mode,
+        tag_length,
+        version,
+        base,
+        count,
+    })
 }
 
 /// Whether an image has exactly the length that its header says, with all pad bits zero, or the refusal.
 pub fn check_fit(bytes: &[u8], header: &Header) -> Result<(), Refusal>
     ensures { MatchResult result (λ _. fit_refusal bytes.now (head_of header.now) ≡ None) (λ e. fit_refusal bytes.now (head_of header.now) ≡ Some e) }
 {
-    let length = header.image_length();
-    if bytes.len() == length as usize && pad_of(bytes, header) == 0 {
-        Ok(())
-    } else {
-        Err(Refusal::Misfit {
-            right_length: length,
-        })
+    let right_length = header.image_length();
+    let end = header.end();
+    let pad = read_field(bytes, end as usize, 8 * right_length - end);
+    if bytes.len() != right_length as usize || pad != 0 {
+        return Err(Refusal::Misfit { right_length });
     }
+    Ok(())
 }
 
 /// Whether the mode or the tag length of a header is not the cipher's.
 pub fn is_foreign<C: WordCipher>(header: &Header, cipher: &C) -> bool
     ensures { result ≡ foreign_to (C.mode_of cipher.now) (C.tag_of cipher.now) (head_of header.now) }
 {
-    let same_mode = cipher.mode().number() == header.mode().number();
-    !(same_mode && cipher.tag_length() == header.tag_length())
+    cipher.mode() != header.mode() || cipher.tag_length() != header.tag_length()
 }
 
 /// Whether an image with that header is for the cipher, or the refusal.
@@ -91,34 +95,9 @@ fn checked(bytes: &[u8]) -> Result<Header, Refusal>
 pub fn read_record(bytes: &[u8], header: &Header, index: u32) -> Option<u64>
     ensures { result ≡ record_at bytes.now (head_of header.now) index }
 {
-    if index < header.count() {
-        Some(record_bits(bytes, header, index))
-    } else {
-        None
+    if index >= header.count() {
+        return None;
     }
-}
-
-fn record_bits(bytes: &[u8], header: &Header, index: u32) -> u64
-    requires { index < header.now.count }
-    ensures { result ≡ record_in bytes.now (head_of header.now) index }
-{
     let width = header.record_bits();
-    read_field(bytes, 66 + index as usize * width as usize, width)
-}
-
-// The pad bits of an image of the right length.
-fn pad_of(bytes: &[u8], header: &Header) -> u64
-    ensures { result ≡ pad_in bytes.now (head_of header.now) }
-{
-    let end = header.end();
-    read_field(bytes, end as usize, 8 * header.image_length() - end)
-}
-
-fn mode_from(bit: u64) -> Mode
-    ensures { result ≡ mode_from bit }
-{
-    match bit {
-        0 => Mode::Tagged,
-        _ => Mode::Block,
-    }
+    Some(read_field(bytes, 66 + index as usize * width as usize, width))
 }

@@ -6,13 +6,13 @@ use cipher::Mode;
 
 /// What an image says of itself: the mode and tag length of its cipher, the program's version, the first word of its
 /// addresses (the byte address divided by 4) and the number of its records.
-#[derive(Clone, Copy)]
+#[derive(Clone, Copy, PartialEq, Eq, Debug)]
 pub struct Header {
-    mode: Mode,
-    tag_length: u32,
-    version: u32,
-    base: u32,
-    count: u32,
+    pub(crate) mode: Mode,
+    pub(crate) tag_length: u32,
+    pub(crate) version: u32,
+    pub(crate) base: u32,
+    pub(crate) count: u32,
     ghost fits: { fits_mode mode tag_length ≡ true },
     ghost small: { version < 2 ^ 8 },
     ghost some: { 0 < count },
@@ -54,22 +54,5 @@ impl Header {
         ensures { result ≡ self.now.count }
     {
         self.count
-    }
-
-    pub(crate) fn of(mode: Mode, tag_length: u32, version: u32, base: u32, count: u32) -> Header
-        requires { (fits_mode mode tag_length ≡ true) × ((version < 2 ^ 8) × ((0 < count) × ((count < 2 ^ 20) × (base + count ≤ 2 ^ 30)))) }
-        ensures mode { result.mode ≡ mode }
-        ensures tag { result.tag_length ≡ tag_length }
-        ensures version { result.version ≡ version }
-        ensures base { result.base ≡ base }
-        ensures count { result.count ≡ count }
-    {
-        Header {
-            mode,
-            tag_length,
-            version,
-            base,
-            count,
-        }
     }
 }

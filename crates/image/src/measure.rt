@@ -11,7 +11,7 @@ impl Header {
         ensures is { result ≡ record_bits (head_of self.now) }
         ensures most { result ≤ 48 }
     {
-        32 + self.tag_length()
+        32 + self.tag_length
     }
 
     /// Where the records end, in bits.
@@ -19,22 +19,13 @@ impl Header {
         ensures is { result ≡ end_of (head_of self.now) }
         ensures most { result < 2 ^ 26 }
     {
-        66 + all_records(self.count(), self.record_bits())
+        66 + self.count * self.record_bits()
     }
 
     /// The length of the image in bytes.
     pub fn image_length(&self) -> u32
         ensures { result ≡ image_length (head_of self.now) }
     {
-        (self.end() + 7) / 8
+        self.end().div_ceil(8)
     }
-}
-
-// The width of all records together.
-fn all_records(count: u32, width: u32) -> u32
-    requires { (count < 2 ^ 20) × (width ≤ 48) }
-    ensures is { result ≡ count * width }
-    ensures most { result ≤ 2 ^ 20 * 48 }
-{
-    count * width
 }

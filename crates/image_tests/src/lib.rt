@@ -78,7 +78,7 @@ mod tests {
         let bytes = bytes_of(heap, raw)?;
         match check_image(bytes.as_slice()) {
             Ok(header) => {
-                assert_eq!(rt; u64::from(header.mode().number()), raw.mode);
+                assert_eq!(rt; u64::from(header.mode()), raw.mode);
                 assert_eq!(rt; u64::from(header.tag_length()), raw.tag);
                 assert_eq!(rt; u64::from(header.version()), raw.version);
                 assert_eq!(rt; u64::from(header.base()), raw.base);

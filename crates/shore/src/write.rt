@@ -12,7 +12,7 @@ pub(crate) fn write_header(header: &Header, buffer: &mut [u8])
     ensures { Written buffer.old buffer.new 0 head_bits (joined (head_fields (head_of header.now)) 0) }
 {
     write_field(buffer, 0, 2, 0);
-    write_field(buffer, 2, 1, header.mode().number() as u64);
+    write_field(buffer, 2, 1, u64::from(header.mode()));
     write_field(buffer, 3, 5, header.tag_length() as u64);
     write_field(buffer, 8, 8, header.version() as u64);
     write_field(buffer, 16, 30, header.base() as u64);
