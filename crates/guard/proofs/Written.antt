@@ -1,5 +1,5 @@
 -- What follows from ChiLow's encryption rule is the published decryption, for every number.
-use Rattle.std.proofs.Common.{◌≡◌, ℕ, ◌+◌, ◌^◌, ◌<◌, ◌≤◌, Bool, true, false, cond, ◌&&◌, ltb, Some, None, Option, sym, refl, ap, ◌∙◌, ⊎_elim, arith, pow_mono, le-ltb}
+use Rattle.std.proofs.Common.{◌≡◌, ℕ, ◌+◌, ◌^◌, ◌<◌, ◌≤◌, Bool, true, false, cond, ◌&&◌, ltb, List, Some, None, Option, sym, refl, ap, ◌∙◌, subst, ⊎_elim, arith, pow_mono, le-ltb}
 use Rattle.std.proofs.lemmas.Bool.{cases_lt}
 use Rattle.cipher.specs.declared.Mode.{Mode}
 use Rattle.cipher.specs.declared.Mode.TheVariants.{Tagged, Block}
@@ -8,7 +8,11 @@ use Rattle.cipher.proofs.Fixed.{decrypted_is}
 use Rattle.chilow.specs.Words.{chilow, opened}
 use Rattle.chilow.specs.Sealing.{opened_laws, opened_is}
 use Rattle.image.proofs.Laying.{tag_most}
-use Rattle.life.specs.Coding.{coding}
+use Rattle.life.specs.declared.Answer.{Answer}
+use Rattle.life.specs.declared.Call.{Call}
+use Rattle.life.specs.Coding.{Coding, coding}
+use Rattle.life.specs.Life.{Life}
+use Rattle.life.specs.State.{State}
 use Rattle.guard.specs.Published.{published}
 
 shut : (a b : Bool) (x : Option ℕ) → a ≡ false → cond (a && b) x None ≡ None
@@ -42,5 +46,11 @@ module _ (m : Mode) (τ : ℕ) (fits : fits_mode m τ ≡ true) where
   all_opened k t s =
       ⊎_elim (λ (l : s < 2 ^ 64). sym (opened_is k m τ t fits s l)) (λ (l : 2 ^ 64 ≤ s). too_wide k t s l ∙ sym (not_opened k t s l)) (cases_lt s (2 ^ 64))
 
-  pub written_in : coding (record { rule = chilow; mode = m; tag = τ }) ≡ published m τ
+  written_in : coding (record { rule = chilow; mode = m; tag = τ }) ≡ published m τ
   written_in = λ z. record { rule = chilow; mode = m; tag = τ; decrypt = λ k t s. all_opened k t s z }
+
+  pub published_life : {first : ℕ} {start : List ℕ} {calls : List Call} {before answers : List Answer} {s : State}
+      → Life (coding (record { rule = chilow; mode = m; tag = τ })) first start calls before answers s
+      → Life (published m τ) first start calls before answers s
+  published_life {first} {start} {calls} {before} {answers} {s} life =
+      subst (λ (c : Coding). Life c first start calls before answers s) written_in life

@@ -2,13 +2,13 @@
 #![tactic(auto)]
 
 ghost use Rattle.std.specs.Prelude.{◌≡◌};
-ghost use Rattle.chilow.specs.Words.{chilow};
 ghost use Rattle.guard.specs.Published.{published};
 ghost use Rattle.life.specs.Coding.{coding};
 ghost use Rattle.life.specs.Life.{Life};
-ghost use Rattle.unit.specs.View.{suite_of, state_of};
+ghost use Rattle.unit.specs.View.{suite_of, state_of, Keeps};
 
 use chilow::word_cipher::ChiLow;
+use cipher::WordCipher;
 use life::{Answer, Call};
 use memory::Memory;
 use unit::run::run;
@@ -22,7 +22,7 @@ pub fn run_chilow<M: Memory>(
     calls: &[Call<'_>],
     answers: &mut [Answer],
 ) -> Unit<ChiLow, M>
-    ensures life { Life (published cipher.mode cipher.tag_bits) cipher.key (M.held memory) calls.now answers.old answers.new (state_of (λ c. c.key) M.held result) }
+    ensures life { Life (published cipher.mode cipher.tag_bits) cipher.key (M.held memory) calls.now answers.old answers.new (state_of ⟦<ChiLow as WordCipher>⟧ M.Memory result) }
     ensures mode { result.core.cipher.mode ≡ cipher.mode }
     ensures tag { result.core.cipher.tag_bits ≡ cipher.tag_bits }
     ensures rest { M.rest result.memory ≡ M.rest memory }
@@ -37,9 +37,8 @@ fn perform_all<M: Memory>(
     calls: &[Call<'_>],
     answers: &mut [Answer],
 ) -> Unit<ChiLow, M>
-    ensures life { Life (coding (record { rule = chilow; mode = cipher.mode; tag = cipher.tag_bits })) cipher.key (M.held memory) calls.now answers.old answers.new (state_of (λ c. c.key) M.held result) }
-    ensures suite { suite_of (λ _. chilow) (λ c. c.mode) (λ c. c.tag_bits) result.core.cipher ≡ suite_of (λ _. chilow) (λ c. c.mode) (λ c. c.tag_bits) cipher }
-    ensures rest { M.rest result.memory ≡ M.rest memory }
+    ensures life { Life (coding (suite_of ⟦<ChiLow as WordCipher>⟧ cipher)) cipher.key (M.held memory) calls.now answers.old answers.new (state_of ⟦<ChiLow as WordCipher>⟧ M.Memory result) }
+    ensures kept { Keeps ⟦<ChiLow as WordCipher>⟧ M.Memory cipher memory result }
 {
     run(cipher, memory, calls, answers)
 }

@@ -1,8 +1,7 @@
 -- A unit's fields as the machine's state.
-use Rattle.std.specs.Prelude.{ℕ, List, length}
-use Rattle.life.specs.declared.Status.{Status}
-use Rattle.cipher.specs.declared.Mode.{Mode}
-use Rattle.cipher.specs.Word.{Rule}
+use Rattle.std.specs.Prelude.{◌≡◌, length}
+use Rattle.cipher.specs.declared.WordCipher.{Ghosts as WordCipher}
+use Rattle.memory.specs.declared.Memory.{Ghosts as Memory}
 use Rattle.unit.specs.declared.unit_core.Core.{Core}
 use Rattle.unit.specs.declared.unit.Unit.{Unit}
 use Rattle.life.specs.Coding.{Suite}
@@ -10,22 +9,23 @@ use Rattle.life.specs.State.{CoreState, State, Did, strikes_left_of}
 use Rattle.life.specs.Life.{Step}
 use Rattle.life.specs.declared.Answer.{Answer}
 use Rattle.life.specs.declared.Call.{Call}
+use Rattle.life.specs.declared.Status.{Status}
 
-abbrev pub core_of : {C : Type 0} → (C → ℕ) → Core C → CoreState
-core_of key u = record {
+abbrev pub core_of : {C : Type 0} → WordCipher C → Core C → CoreState
+core_of c u = record {
   condition = u.condition;
-  key = key u.cipher;
+  key = c.key_of u.cipher;
   strikes = u.strikes;
   version = u.version;
   base = u.base;
   count = u.count;
 }
 
-abbrev pub state_of : {C M : Type 0} → (C → ℕ) → (M → List ℕ) → Unit C M → State
-state_of key held u = record { core = core_of key u.core; held = held u.memory }
+abbrev pub state_of : {C M : Type 0} → WordCipher C → Memory M → Unit C M → State
+state_of c m u = record { core = core_of c u.core; held = m.held u.memory }
 
-abbrev pub suite_of : {C : Type 0} → (C → Rule) → (C → Mode) → (C → ℕ) → C → Suite
-suite_of rule mode tag c = record { rule = rule c; mode = mode c; tag = tag c }
+abbrev pub suite_of : {C : Type 0} → WordCipher C → C → Suite
+suite_of c cipher = record { rule = c.rule cipher; mode = c.mode_of cipher; tag = c.tag_of cipher }
 
 -- what a unit tells of itself
 abbrev pub status_of : State → Status
@@ -36,14 +36,17 @@ status_of s = record {
   in_force = s.core.version;
 }
 
--- what a call does to a unit, and the law of its life: a unit before and after it, by the meaning of its cipher (rule,
--- mode, tag length, key) and of its memory
-abbrev pub Does : {C M : Type 0} → (C → Rule) → (C → Mode) → (C → ℕ) → (C → ℕ) → (M → List ℕ) → Unit C M → Call → Answer → Unit C M → Type 0
-Does rule mode tag key held before call answer after =
-    Did (suite_of rule mode tag before.core.cipher) (state_of key held before) call answer
-    (suite_of rule mode tag after.core.cipher) (state_of key held after)
+-- what no call changes: the cipher's rule, mode and tag length, and the rest of the memory
+pub record Keeps {C M : Type 0} (c : WordCipher C) (m : Memory M) (cipher : C) (memory : M) (u : Unit C M) : Type 0 where
+  pub suite : suite_of c u.core.cipher ≡ suite_of c cipher
+  pub rest : m.rest u.memory ≡ m.rest memory
 
-abbrev pub Lives : {C M : Type 0} → (C → Rule) → (C → Mode) → (C → ℕ) → (C → ℕ) → (M → List ℕ) → Unit C M → Call → Answer → Unit C M → Type 0
-Lives rule mode tag key held before call answer after =
-    Step (suite_of rule mode tag before.core.cipher) (state_of key held before) call answer
-    (suite_of rule mode tag after.core.cipher) (state_of key held after)
+-- what a call does to a unit
+pub record Does {C M : Type 0} (c : WordCipher C) (m : Memory M) (before : Unit C M) (call : Call) (answer : Answer) (after : Unit C M) : Type 0 where
+  pub machine : Did (suite_of c before.core.cipher) (state_of c m before) call answer (suite_of c after.core.cipher) (state_of c m after)
+  pub rest : m.rest after.memory ≡ m.rest before.memory
+
+-- the law of a unit's life
+abbrev pub Lives : {C M : Type 0} → WordCipher C → Memory M → Unit C M → Call → Answer → Unit C M → Type 0
+Lives c m before call answer after =
+    Step (suite_of c before.core.cipher) (state_of c m before) call answer (suite_of c after.core.cipher) (state_of c m after)

@@ -17,7 +17,7 @@ pub(crate) fn open_at<C: WordCipher>(
     address: u32,
     stored: u64,
 ) -> Option<u32>
-    ensures { result ≡ opened_at (coding (suite_of C.rule C.mode_of C.tag_of cipher.now)) (C.key_of cipher.now) version address stored }
+    ensures { result ≡ opened_at (coding (suite_of C.WordCipher cipher.now)) (C.key_of cipher.now) version address stored }
 {
     cipher.decrypt(tweak_of(version, address), stored)
 }
@@ -45,7 +45,7 @@ pub(crate) fn check_size(slots: u32, count: u32) -> Result<(), Refusal>
 // What a record of an image yields.
 fn open_record<C: WordCipher>(cipher: &C, image: &[u8], header: &Header, index: u32) -> Option<u32>
     requires { index < header.now.count }
-    ensures { result ≡ record_opens (coding (suite_of C.rule C.mode_of C.tag_of cipher.now)) (C.key_of cipher.now) image.now (head_of header.now) index }
+    ensures { result ≡ record_opens (coding (suite_of C.WordCipher cipher.now)) (C.key_of cipher.now) image.now (head_of header.now) index }
 {
     let stored = read_record(image, header, index)?;
     open_at(
@@ -62,7 +62,7 @@ pub(crate) fn check_records<C: WordCipher>(
     image: &[u8],
     header: &Header,
 ) -> Result<(), Refusal>
-    ensures { MatchResult result (λ _. foul_refusal (coding (suite_of C.rule C.mode_of C.tag_of cipher.now)) (C.key_of cipher.now) image.now (head_of header.now) ≡ None) (λ e. foul_refusal (coding (suite_of C.rule C.mode_of C.tag_of cipher.now)) (C.key_of cipher.now) image.now (head_of header.now) ≡ Some e) }
+    ensures { MatchResult result (λ _. foul_refusal (coding (suite_of C.WordCipher cipher.now)) (C.key_of cipher.now) image.now (head_of header.now) ≡ None) (λ e. foul_refusal (coding (suite_of C.WordCipher cipher.now)) (C.key_of cipher.now) image.now (head_of header.now) ≡ Some e) }
 {
     for index in 0..header.count() {
         let Some(_) = open_record(cipher, image, header, index) else {
@@ -80,7 +80,7 @@ fn check_program<C: WordCipher>(
     image: &[u8],
     header: &Header,
 ) -> Result<(), Refusal>
-    ensures { MatchResult result (λ _. program_refusal (coding (suite_of C.rule C.mode_of C.tag_of cipher.now)) (C.key_of cipher.now) in_force slots image.now (head_of header.now) ≡ None) (λ e. program_refusal (coding (suite_of C.rule C.mode_of C.tag_of cipher.now)) (C.key_of cipher.now) in_force slots image.now (head_of header.now) ≡ Some e) }
+    ensures { MatchResult result (λ _. program_refusal (coding (suite_of C.WordCipher cipher.now)) (C.key_of cipher.now) in_force slots image.now (head_of header.now) ≡ None) (λ e. program_refusal (coding (suite_of C.WordCipher cipher.now)) (C.key_of cipher.now) in_force slots image.now (head_of header.now) ≡ Some e) }
 {
     check_cipher(header, cipher)?;
     check_version(in_force, header.version())?;
@@ -95,7 +95,7 @@ pub(crate) fn check_install<C: WordCipher>(
     slots: u32,
     image: &[u8],
 ) -> Result<Header, Refusal>
-    ensures { MatchResult result (λ h. (install_refusal (coding (suite_of C.rule C.mode_of C.tag_of cipher.now)) (C.key_of cipher.now) in_force slots image.now ≡ None) × (head_of h ≡ head_in image.now)) (λ e. install_refusal (coding (suite_of C.rule C.mode_of C.tag_of cipher.now)) (C.key_of cipher.now) in_force slots image.now ≡ Some e) }
+    ensures { MatchResult result (λ h. (install_refusal (coding (suite_of C.WordCipher cipher.now)) (C.key_of cipher.now) in_force slots image.now ≡ None) × (head_of h ≡ head_in image.now)) (λ e. install_refusal (coding (suite_of C.WordCipher cipher.now)) (C.key_of cipher.now) in_force slots image.now ≡ Some e) }
 {
     let header = check_image(image)?;
     match check_program(cipher, in_force, slots, image, &header) {

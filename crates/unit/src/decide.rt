@@ -6,7 +6,7 @@ ghost use Rattle.life.specs.declared.Call.TheVariants.{Install, Fetch, Overwrite
 ghost use Rattle.life.specs.declared.Condition.TheVariants.{Live};
 ghost use Rattle.life.specs.Deeds.{refused_with};
 ghost use Rattle.life.specs.State.{after};
-ghost use Rattle.unit.specs.View.{suite_of, state_of, Does};
+ghost use Rattle.unit.specs.View.{state_of, Keeps, Does};
 
 use crate::checks::check_install;
 use crate::program::is_rejection;
@@ -20,8 +20,7 @@ use refusal::Refusal;
 impl<C: WordCipher, M: Memory> Unit<C, M> {
     // Performs a call of any kind.
     pub(crate) fn decide(&mut self, call: Call<'_>) -> Answer
-        ensures did { Does C.rule C.mode_of C.tag_of C.key_of M.held self.old call.entry result self.new }
-        ensures rest { M.rest self.new.memory ≡ M.rest self.old.memory }
+        ensures { Does C.WordCipher M.Memory self.old call.entry result self.new }
     {
         match (self.core.condition, call) {
             (Condition::Live, Call::Load { .. }) => Answer::Refused(Refusal::KeyInUse),
@@ -39,9 +38,8 @@ impl<C: WordCipher, M: Memory> Unit<C, M> {
     fn refuse(&mut self, refusal: Refusal) -> Answer
         requires { self.old.core.condition ≡ Live }
         ensures answer { result ≡ Refused refusal }
-        ensures after { state_of C.key_of M.held self.new ≡ after (refused_with (note_of refusal).number) (state_of C.key_of M.held self.old) }
-        ensures suite { suite_of C.rule C.mode_of C.tag_of self.new.core.cipher ≡ suite_of C.rule C.mode_of C.tag_of self.old.core.cipher }
-        ensures rest { M.rest self.new.memory ≡ M.rest self.old.memory }
+        ensures after { state_of C.WordCipher M.Memory self.new ≡ after (refused_with (note_of refusal).number) (state_of C.WordCipher M.Memory self.old) }
+        ensures kept { Keeps C.WordCipher M.Memory self.old.core.cipher self.old.memory self.new }
     {
         if is_rejection(refusal) {
             self.core.strike();
@@ -50,8 +48,7 @@ impl<C: WordCipher, M: Memory> Unit<C, M> {
     }
 
     fn write_slot(&mut self, slot: u32, number: u64) -> Answer
-        ensures did { Does C.rule C.mode_of C.tag_of C.key_of M.held self.old (Overwrite slot number) result self.new }
-        ensures rest { M.rest self.new.memory ≡ M.rest self.old.memory }
+        ensures { Does C.WordCipher M.Memory self.old (Overwrite slot number) result self.new }
     {
         match self.memory.write(slot, number) {
             Ok(()) => Answer::Done,
@@ -61,8 +58,7 @@ impl<C: WordCipher, M: Memory> Unit<C, M> {
 
     fn fetch_live(&mut self, address: u32) -> Answer
         requires { self.old.core.condition ≡ Live }
-        ensures did { Does C.rule C.mode_of C.tag_of C.key_of M.held self.old (Fetch address) result self.new }
-        ensures rest { M.rest self.new.memory ≡ M.rest self.old.memory }
+        ensures { Does C.WordCipher M.Memory self.old (Fetch address) result self.new }
     {
         match self.core.look_up(&self.memory, address) {
             Ok(instruction) => Answer::Instruction(instruction),
@@ -72,8 +68,7 @@ impl<C: WordCipher, M: Memory> Unit<C, M> {
 
     fn install_live(&mut self, image: &[u8]) -> Answer
         requires { self.old.core.condition ≡ Live }
-        ensures did { Does C.rule C.mode_of C.tag_of C.key_of M.held self.old (Install image.entry) result self.new }
-        ensures rest { M.rest self.new.memory ≡ M.rest self.old.memory }
+        ensures { Does C.WordCipher M.Memory self.old (Install image.entry) result self.new }
     {
         let slots = self.memory.slots();
         match check_install(&self.core.cipher, self.core.version, slots, image) {

@@ -21,8 +21,8 @@ use refusal::Refusal;
 impl<C: WordCipher> Core<C> {
     // A core with nothing installed, and no key but what the cipher came with.
     pub(crate) fn unkeyed(cipher: C) -> Core<C>
-        ensures core { core_of C.key_of result ≡ unkeyed (C.key_of cipher) }
-        ensures suite { suite_of C.rule C.mode_of C.tag_of result.cipher ≡ suite_of C.rule C.mode_of C.tag_of cipher }
+        ensures core { core_of C.WordCipher result ≡ unkeyed (C.key_of cipher) }
+        ensures suite { suite_of C.WordCipher result.cipher ≡ suite_of C.WordCipher cipher }
     {
         Core {
             cipher,
@@ -36,8 +36,8 @@ impl<C: WordCipher> Core<C> {
 
     // A new key: the core is live, has no strikes and nothing installed.
     pub(crate) fn begin(&mut self, key: u128)
-        ensures after { core_of C.key_of self.new ≡ core_after (loaded key) (core_of C.key_of self.old) }
-        ensures suite { suite_of C.rule C.mode_of C.tag_of self.new.cipher ≡ suite_of C.rule C.mode_of C.tag_of self.old.cipher }
+        ensures after { core_of C.WordCipher self.new ≡ core_after (loaded key) (core_of C.WordCipher self.old) }
+        ensures suite { suite_of C.WordCipher self.new.cipher ≡ suite_of C.WordCipher self.old.cipher }
     {
         self.cipher.load(key);
         self.condition = Condition::Live;
@@ -50,8 +50,8 @@ impl<C: WordCipher> Core<C> {
     // One strike more; at the fourth the core is locked, and its cipher's key is zero.
     pub(crate) fn strike(&mut self)
         requires { self.old.strikes ≤ 3 }
-        ensures after { core_of C.key_of self.new ≡ struck (core_of C.key_of self.old) }
-        ensures suite { suite_of C.rule C.mode_of C.tag_of self.new.cipher ≡ suite_of C.rule C.mode_of C.tag_of self.old.cipher }
+        ensures after { core_of C.WordCipher self.new ≡ struck (core_of C.WordCipher self.old) }
+        ensures suite { suite_of C.WordCipher self.new.cipher ≡ suite_of C.WordCipher self.old.cipher }
     {
         if self.strikes >= 3 {
             self.condition = Condition::Locked;
@@ -62,8 +62,8 @@ impl<C: WordCipher> Core<C> {
 
     // The program of that header is installed.
     pub(crate) fn place(&mut self, header: &Header)
-        ensures after { core_of C.key_of self.new ≡ placed (head_of header.now) (core_of C.key_of self.old) }
-        ensures suite { suite_of C.rule C.mode_of C.tag_of self.new.cipher ≡ suite_of C.rule C.mode_of C.tag_of self.old.cipher }
+        ensures after { core_of C.WordCipher self.new ≡ placed (head_of header.now) (core_of C.WordCipher self.old) }
+        ensures suite { suite_of C.WordCipher self.new.cipher ≡ suite_of C.WordCipher self.old.cipher }
     {
         self.version = Some(header.version());
         self.base = header.base();
@@ -97,7 +97,7 @@ impl<C: WordCipher> Core<C> {
     // What a slot yields at an address, under a version.
     fn open_slot<M: Memory>(&self, memory: &M, version: u32, address: u32, slot: u32) -> Option<u32>
         requires { slot < length (M.held memory.now) }
-        ensures { result ≡ opened_at (coding (suite_of C.rule C.mode_of C.tag_of self.now.cipher)) (C.key_of self.now.cipher) version address (slice_index (M.held memory.now) slot) }
+        ensures { result ≡ opened_at (coding (suite_of C.WordCipher self.now.cipher)) (C.key_of self.now.cipher) version address (slice_index (M.held memory.now) slot) }
     {
         let Ok(stored) = memory.read(slot) else {
             return None;
@@ -107,7 +107,7 @@ impl<C: WordCipher> Core<C> {
 
     // The instruction of an address under the live key, or the first refusal that fits.
     pub(crate) fn look_up<M: Memory>(&self, memory: &M, address: u32) -> Result<u32, Refusal>
-        ensures { MatchResult result (λ i. fetch_row (coding (suite_of C.rule C.mode_of C.tag_of self.now.cipher)) (C.key_of self.now.cipher) (program_by self.now.version self.now.base (min self.now.count (length (M.held memory.now)))) (M.held memory.now) address ≡ Instruction i) (λ e. fetch_row (coding (suite_of C.rule C.mode_of C.tag_of self.now.cipher)) (C.key_of self.now.cipher) (program_by self.now.version self.now.base (min self.now.count (length (M.held memory.now)))) (M.held memory.now) address ≡ Refused e) }
+        ensures { MatchResult result (λ i. fetch_row (coding (suite_of C.WordCipher self.now.cipher)) (C.key_of self.now.cipher) (program_by self.now.version self.now.base (min self.now.count (length (M.held memory.now)))) (M.held memory.now) address ≡ Instruction i) (λ e. fetch_row (coding (suite_of C.WordCipher self.now.cipher)) (C.key_of self.now.cipher) (program_by self.now.version self.now.base (min self.now.count (length (M.held memory.now)))) (M.held memory.now) address ≡ Refused e) }
     {
         if address % 4 != 0 {
             return Err(Refusal::Odd { address });

@@ -2,7 +2,7 @@
 ghost use Rattle.std.specs.Prelude.{◌≡◌};
 ghost use Rattle.life.specs.Coding.{coding};
 ghost use Rattle.life.specs.Life.{Life};
-ghost use Rattle.unit.specs.View.{suite_of, state_of};
+ghost use Rattle.unit.specs.View.{suite_of, state_of, Keeps};
 
 use crate::unit::Unit;
 use cipher::WordCipher;
@@ -17,9 +17,8 @@ pub fn run<C: WordCipher, M: Memory>(
     calls: &[Call<'_>],
     answers: &mut [Answer],
 ) -> Unit<C, M>
-    ensures life { Life (coding (suite_of C.rule C.mode_of C.tag_of cipher)) (C.key_of cipher) (M.held memory) calls.now answers.old answers.new (state_of C.key_of M.held result) }
-    ensures suite { suite_of C.rule C.mode_of C.tag_of result.core.cipher ≡ suite_of C.rule C.mode_of C.tag_of cipher }
-    ensures rest { M.rest result.memory ≡ M.rest memory }
+    ensures life { Life (coding (suite_of C.WordCipher cipher)) (C.key_of cipher) (M.held memory) calls.now answers.old answers.new (state_of C.WordCipher M.Memory result) }
+    ensures kept { Keeps C.WordCipher M.Memory cipher memory result }
 {
     let mut unit = Unit::new(cipher, memory);
     let places = calls.len().min(answers.len());

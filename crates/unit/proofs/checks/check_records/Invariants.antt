@@ -8,6 +8,6 @@ use Rattle.unit.proofs.checks.check_records.Given as goal
 abbrev pub invariant-loop-index : goal.invariant-loop-index
 invariant-loop-index g l =
     let C = g.C.WordCipher in
-    let opens = record_opens (coding (suite_of C.rule C.mode_of C.tag_of l.cipher)) (C.key_of l.cipher) l.image (head_of l.header) in
+    let opens = record_opens (coding (suite_of C l.cipher)) (C.key_of l.cipher) l.image (head_of l.header) in
     (foul_from opens l.index (l.header.count - l.index) ≡ foul_from opens 0 l.header.count)
     × (l.header.count ≤ l.index → foul_from opens 0 l.header.count ≡ None)

@@ -11,11 +11,11 @@ abbrev pub invariant-loop-n : goal.invariant-loop-n
 invariant-loop-n g l =
     let C = g.C.WordCipher in
     let M = g.M.Memory in
-    let suite = suite_of C.rule C.mode_of C.tag_of in
+    let suite = suite_of C in
     let cipher = l.initial.unit.core.cipher in
     let start = M.held l.initial.unit.memory in
     ((k : ℕ) → k < l.n → Law (coding (suite cipher)) start (past l.calls l.answers k) (get_or l.calls k (Load 0)) (get_or l.answers k Done))
-    × Agrees (coding (suite cipher)) (C.key_of cipher) start (past l.calls l.answers l.n) (state_of C.key_of M.held l.unit)
+    × Agrees (coding (suite cipher)) (C.key_of cipher) start (past l.calls l.answers l.n) (state_of C M l.unit)
     × ((k : ℕ) → l.n ≤ k → get_or l.answers k Done ≡ get_or l.initial.answers k Done)
     × (suite l.unit.core.cipher ≡ suite cipher)
     × (M.rest l.unit.memory ≡ M.rest l.initial.unit.memory)

@@ -4,4 +4,4 @@ use Rattle.unit.proofs.unit.Unit.overwrite.Goals as goal
 pub returns : goal.returns
 returns g c =
     let done = c.perform.ensures in
-    record { did = did_as _ _ c.overwrite.ensures done.did; life = step_as _ _ c.overwrite.ensures done.life; rest = done.rest }
+    record { did = record { machine = did_as _ _ c.overwrite.ensures done.did.machine; rest = done.did.rest }; life = step_as _ _ c.overwrite.ensures done.life }
