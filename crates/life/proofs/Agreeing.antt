@@ -44,11 +44,11 @@ still_key first None n l = refl
 
 locked : (K : Option ℕ) (n : ℕ) → 3 ≤ n → live_by K n ≡ true → Locked ≡ condition_by K (n + 1)
 locked (Some k) n l e = ap (λ (b : Bool). cond b Live Locked) (sym (le-ltb (n + 1) 4 (omega arith)))
-locked None n l e = let z : ◌≡◌ {A = ℕ} 0 1 = cc in absurd (omega arith)
+locked None n l e = absurd cc
 
 cleared : (first : ℕ) (K : Option ℕ) (n : ℕ) → 3 ≤ n → live_by K n ≡ true → 0 ≡ cipher_key_by first K (n + 1)
 cleared first (Some k) n l e = ap (λ (b : Bool). cond b k 0) (sym (le-ltb (n + 1) 4 (omega arith)))
-cleared first None n l e = let z : ◌≡◌ {A = ℕ} 0 1 = cc in absurd (omega arith)
+cleared first None n l e = absurd cc
 
 module _ {first : ℕ} {start : List ℕ} {K : Option ℕ} {n : ℕ} {I : Option (List ℕ)} {slot : ℕ → ℕ} {s : State} where
   strike : (b : Bool) → ltb s.core.strikes 3 ≡ b → Fields first start K n I slot s → live_by K n ≡ true

@@ -22,15 +22,15 @@ pub record Fetching (c : Coding) (K : Known) (a i : ℕ) : Type 0 where
 
 only : (b : Bool) (x : Answer) (e : Refusal) (i : ℕ) → tells (cond b x (Refused e)) ≡ yielded i → (b ≡ true) × (tells x ≡ yielded i)
 only true x e i q = (refl, q)
-only false x e i q = let z : ◌≡◌ {A = ℕ} 0 1 = cc in absurd (omega arith)
+only false x e i q = absurd cc
 
 decodes : (o : Option ℕ) (a i : ℕ) → tells (decoded o a) ≡ yielded i → o ≡ Some i
 decodes (Some j) a i e = let q : j ≡ i = cc in ap Some q
-decodes None a i e = let z : ◌≡◌ {A = ℕ} 0 1 = cc in absurd (omega arith)
+decodes None a i e = absurd cc
 
 module _ (c : Coding) (K : Known) (a i : ℕ) where
   at : (k : ℕ) → K.key ≡ Some k → (P : Option Program) → K.program ≡ P → a % 4 ≡ 0 → tells (fetch_answer c k P K.held a) ≡ yielded i → Fetching c K a i
-  at k ek None ep m e = let z : ◌≡◌ {A = ℕ} 0 1 = cc in absurd (omega arith)
+  at k ek None ep m e = absurd cc
   at k ek (Some p) ep m e =
       let o = only (on_map p a) (decoded (opened_at c k p.version a (get_or K.held (slot_of p a) 0)) a) (OffMap a) i e in
       let b = and_parts (leb p.base (a / 4)) (ltb (a / 4 - p.base) p.count) o.0 in
@@ -47,7 +47,7 @@ module _ (c : Coding) (K : Known) (a i : ℕ) where
       }
 
   by_key : (o : Option ℕ) → K.key ≡ o → tells (row_by o c K (Fetch a)) ≡ yielded i → Fetching c K a i
-  by_key None q e = let z : ◌≡◌ {A = ℕ} 0 1 = cc in absurd (omega arith)
+  by_key None q e = absurd cc
   by_key (Some k) q e =
       let o = only (eqb (a % 4) 0) (fetch_answer c k K.program K.held a) (Odd a) i e in
       at k q K.program refl (eqb-true (a % 4) 0 o.0) o.1

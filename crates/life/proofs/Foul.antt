@@ -1,53 +1,68 @@
 -- The first record that yields nothing.
-use Rattle.std.proofs.Common.{◌≡◌, ℕ, zero, suc, ◌+◌, ◌-◌, ◌<◌, ◌≤◌, List, Some, None, Option, sym, refl, ap, ◌∙◌, arith}
+use Rattle.std.proofs.Common.{◌≡◌, ℕ, zero, suc, ◌+◌, ◌-◌, ◌<◌, ◌≤◌, Bool, true, false, cond, nat_lt, Some, None, Option, is_some, sym, refl, ap, ap₂, ◌∙◌, ⊎_elim, arith, lt-ltb}
+use Rattle.std.proofs.lemmas.Bool.{cases_eq}
 use Rattle.refusal.specs.declared.Refusal.{Refusal}
 use Rattle.refusal.specs.declared.Refusal.TheVariants.{FoulRecord}
-use Rattle.image.specs.Layout.{Head}
-use Rattle.image.specs.Reading.{head_in, or_else, refusal_of}
-use Rattle.life.specs.Coding.{Coding}
-use Rattle.life.specs.Checks.{foul_from, passes, program_refusal, install_refusal}
+use Rattle.life.specs.Checks.{foul_from, passes}
 
 module _ (opens : ℕ → Option ℕ) where
   more : (k n : ℕ) → foul_from opens k (suc n) ≡ passes (opens k) k (foul_from opens (k + 1) n)
   unfolding foul_from
   more k n = refl
 
-  one : (k n : ℕ) → k < n → foul_from opens k (n - k) ≡ passes (opens k) k (foul_from opens (k + 1) (n - (k + 1)))
-  one k n h = ap (foul_from opens k) (let e : n - k ≡ suc (n - (k + 1)) = omega arith in e) ∙ more k (n - (k + 1))
-
-  -- the records before k were good: the search goes on at k
-  pub foul_here : (k n : ℕ) → k < n → foul_from opens k (n - k) ≡ foul_from opens 0 n → opens k ≡ None → foul_from opens 0 n ≡ Some (FoulRecord k)
-  foul_here k n h inv e = sym inv ∙ one k n h ∙ ap (λ (o : Option ℕ). passes o k (foul_from opens (k + 1) (n - (k + 1)))) e
-
-  pub foul_on : (k n i : ℕ) → k < n → foul_from opens k (n - k) ≡ foul_from opens 0 n → opens k ≡ Some i → foul_from opens (k + 1) (n - (k + 1)) ≡ foul_from opens 0 n
-  foul_on k n i h inv e = sym (one k n h ∙ ap (λ (o : Option ℕ). passes o k (foul_from opens (k + 1) (n - (k + 1)))) e) ∙ inv
-
-  pub foul_none : (k n : ℕ) → n ≤ k → foul_from opens k (n - k) ≡ foul_from opens 0 n → foul_from opens 0 n ≡ None
+  none : (k : ℕ) → foul_from opens k 0 ≡ None
   unfolding foul_from
-  foul_none k n h inv = sym inv ∙ ap (foul_from opens k) (let e : n - k ≡ 0 = omega arith in e)
+  none k = refl
 
-  -- and where there is none, every record yields an instruction
+  -- a search up to record e has come to k, and will find r
+  module _ (k e : ℕ) (r : Option Refusal) (come : foul_from opens k (e - k) ≡ r) where
+    one : k < e → passes (opens k) k (foul_from opens (k + 1) (e - (k + 1))) ≡ r
+    one l = sym (more k (e - (k + 1))) ∙ ap (foul_from opens k) (let z : suc (e - (k + 1)) ≡ e - k = omega arith in z) ∙ come
+
+    pub foul_here : (o : Option ℕ) → k < e → o ≡ opens k → is_some o ≡ false → Some (FoulRecord k) ≡ r
+    foul_here None l at shut = ap (λ (o : Option ℕ). passes o k (foul_from opens (k + 1) (e - (k + 1)))) at ∙ one l
+    foul_here (Some i) l at shut = absurd cc
+
+    pub foul_later : (o : Option ℕ) → k < e → o ≡ opens k → is_some o ≡ true → foul_from opens (k + 1) (e - (k + 1)) ≡ r
+    foul_later None l at shut = absurd cc
+    foul_later (Some i) l at shut = ap (λ (o : Option ℕ). passes o k (foul_from opens (k + 1) (e - (k + 1)))) at ∙ one l
+
+    pub foul_nowhere : e ≤ k → None ≡ r
+    foul_nowhere l = sym (none k) ∙ ap (foul_from opens k) (let z : 0 ≡ e - k = omega arith in z) ∙ come
+
+  -- where every record yields an instruction, none is foul
+  pub none_foul : (is : ℕ → ℕ) (k n : ℕ) → ((j : ℕ) → k ≤ j → j < k + n → opens j ≡ Some (is j)) → foul_from opens k n ≡ None
+  none_foul is k zero all = none k
+  none_foul is k (suc n) all =
+      more k n
+      ∙ ap (λ (o : Option ℕ). passes o k (foul_from opens (k + 1) n)) (all k (omega arith) (omega arith))
+      ∙ none_foul is (k + 1) n (λ j l u. all j (omega arith) (omega arith))
+
+  -- and where none is foul, every record yields one
   passed : (o : Option ℕ) (k : ℕ) (rest : Option Refusal) → passes o k rest ≡ None → ((i : ℕ) × (o ≡ Some i)) × (rest ≡ None)
   passed (Some i) k rest e = ((i, refl), e)
-  passed None k rest e = let z : ◌≡◌ {A = ℕ} 0 1 = cc in absurd (omega arith)
+  passed None k rest e = absurd cc
 
-  from : (k n j : ℕ) → foul_from opens k n ≡ None → j < n → (i : ℕ) × (opens (k + j) ≡ Some i)
-  from k zero j e u = absurd (omega arith)
-  from k (suc n) zero e u =
+  pub all_open : (k n j : ℕ) → foul_from opens k n ≡ None → k ≤ j → j < k + n → (i : ℕ) × (opens j ≡ Some i)
+  all_open k zero j e l u = absurd (omega arith)
+  all_open k (suc n) j e l u =
       let p = passed (opens k) k (foul_from opens (k + 1) n) (sym (more k n) ∙ e) in
-      (p.0.0, ap opens (let z : k + 0 ≡ k = omega arith in z) ∙ p.0.1)
-  from k (suc n) (suc j) e u =
-      let p = passed (opens k) k (foul_from opens (k + 1) n) (sym (more k n) ∙ e) in
-      let q = from (k + 1) n j p.1 (omega arith) in
-      (q.0, ap opens (let z : k + suc j ≡ k + 1 + j = omega arith in z) ∙ q.1)
+      ⊎_elim
+      (λ (q : j ≡ k). (p.0.0, ap opens q ∙ p.0.1))
+      (λ (q : j ≡ k → ⊥). all_open (k + 1) n j p.1 (omega arith) (omega arith))
+      (cases_eq j k)
 
-  pub all_open : (n j : ℕ) → foul_from opens 0 n ≡ None → j < n → (i : ℕ) × (opens j ≡ Some i)
-  all_open n j e u =
-      let q = from 0 n j e u in
-      (q.0, ap opens (let z : j ≡ 0 + j = omega arith in z) ∙ q.1)
+-- two searches that agree on the records they try
+foul_same : (f g : ℕ → Option ℕ) (k n : ℕ) → ((j : ℕ) → k ≤ j → j < k + n → f j ≡ g j) → foul_from f k n ≡ foul_from g k n
+foul_same f g k zero same = none f k ∙ sym (none g k)
+foul_same f g k (suc n) same =
+    more f k n
+    ∙ ap₂ (λ (o : Option ℕ) (r : Option Refusal). passes o k r) (same k (omega arith) (omega arith))
+    (foul_same f g (k + 1) n (λ j l u. same j (omega arith) (omega arith)))
+    ∙ sym (more g k n)
 
--- the refusal of a header that was read is that of the bytes
-pub refused_by_head : (c : Coding) (key : ℕ) (in_force : Option ℕ) (slots : ℕ) (bytes : List ℕ) (h : Head) (e : Refusal) → refusal_of bytes ≡ None → h ≡ head_in bytes → program_refusal c key in_force slots bytes h ≡ Some e → install_refusal c key in_force slots bytes ≡ Some e
-refused_by_head c key in_force slots bytes h e none same refused =
-    ap (λ (o : Option Refusal). or_else o (program_refusal c key in_force slots bytes (head_in bytes))) none
-    ∙ ap (program_refusal c key in_force slots bytes) (sym same) ∙ refused
+-- no record past the last is tried
+pub foul_within : (opens : ℕ → Option ℕ) (count k n : ℕ) → k + n ≤ count → foul_from (λ j. cond (nat_lt j count) (opens j) None) k n ≡ foul_from opens k n
+foul_within opens count k n fits =
+    foul_same (λ j. cond (nat_lt j count) (opens j) None) opens k n
+    (λ j l u. ap (λ (b : Bool). cond b (opens j) None) (lt-ltb j count (omega arith)))

@@ -1,6 +1,6 @@
 -- What an accepted install leaves behind it: its image was checked, and its slots hold its records until they are
 -- overwritten.
-use Rattle.std.proofs.Common.{◌≡◌, ℕ, ◌<◌, Bool, true, false, cond, eqb, List, [], ◌∷◌, length, Some, None, Option, sym, refl, ap, ◌∙◌, subst, arith, lt-ltb}
+use Rattle.std.proofs.Common.{◌≡◌, ℕ, ◌<◌, Bool, true, false, cond, eqb, List, [], ◌∷◌, length, Some, None, Option, sym, refl, ap, ◌∙◌, subst, lt-ltb}
 use Rattle.image.specs.Reading.{head_in, record_in}
 use Rattle.life.specs.Coding.{Coding, tells}
 use Rattle.life.specs.Deeds.{Deed}
@@ -10,14 +10,14 @@ use Rattle.life.specs.Life.{Answered}
 use Rattle.life.proofs.Meeting.{Checked, Meets, meets}
 
 pub none_some : {A X : Type 0} {x : A} → None ≡ Some x → X
-none_some e = let z : ◌≡◌ {A = ℕ} 0 1 = cc in absurd (omega arith)
+none_some e = absurd cc
 
 pub record Kept (c : Coding) (slots : ℕ) (K : Option ℕ) (I : Option (List ℕ)) (slot : ℕ → ℕ) (touched : ℕ → Bool) : Type 0 where
   pub checked : (image : List ℕ) → I ≡ Some image → (k : ℕ) × (K ≡ Some k) × Checked c slots k image
   pub same : (image : List ℕ) (j : ℕ) → I ≡ Some image → j < (head_in image).count → touched j ≡ false → slot j ≡ record_in image (head_in image) j
 
 untouched : (b o : Bool) → cond b true o ≡ false → (b ≡ false) × (o ≡ false)
-untouched true o e = let z : ◌≡◌ {A = ℕ} 0 1 = cc in absurd (omega arith)
+untouched true o e = absurd cc
 untouched false o e = (refl, e)
 
 module _ (c : Coding) (start : List ℕ) (h : List Event) where

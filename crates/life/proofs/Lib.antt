@@ -7,3 +7,4 @@ pub mod Fetching
 pub mod Telling
 pub mod Stepping
 pub mod Pasts
+pub mod Sealing

@@ -1,5 +1,5 @@
 -- What an answer tells of the history before it.
-use Rattle.std.proofs.Common.{◌≡◌, ℕ, ◌≤◌, Bool, true, false, cond, ltb, leb, List, length, Some, None, Ok, Err, Option, sym, refl, ap, ◌∙◌, subst, arith, leb-true}
+use Rattle.std.proofs.Common.{◌≡◌, ℕ, ◌≤◌, Bool, true, false, cond, ltb, leb, List, length, Some, None, Ok, Err, Option, sym, refl, ap, ◌∙◌, subst, leb-true}
 use Rattle.std.proofs.lemmas.List.FromFn.{length-map-range_with_len}
 use Rattle.refusal.specs.declared.Refusal.{Refusal}
 use Rattle.refusal.specs.declared.Refusal.TheVariants.{NoSlot, TooWide}
@@ -21,12 +21,12 @@ key_live (Some key) n k e = by (ltb n 4) e
   where
     by : (b : Bool) → cond b (Some key) None ≡ Some k → (b ≡ true) × (Some key ≡ Some k)
     by true q = (refl, q)
-    by false q = let z : ◌≡◌ {A = ℕ} 0 1 = cc in absurd (omega arith)
-key_live None n k e = let z : ◌≡◌ {A = ℕ} 0 1 = cc in absurd (omega arith)
+    by false q = absurd cc
+key_live None n k e = absurd cc
 
 pub live_key_lem : (K : Option ℕ) (n k : ℕ) → live_by K n ≡ true → K ≡ Some k → live_key_by K n ≡ Some k
 live_key_lem (Some key) n k l e = ap (λ (b : Bool). cond b (Some key) None) l ∙ e
-live_key_lem None n k l e = let z : ◌≡◌ {A = ℕ} 0 1 = cc in absurd (omega arith)
+live_key_lem None n k l e = absurd cc
 
 -- ---- rejections come only from a live unit
 abbrev pub number_in : Told → ℕ
@@ -47,7 +47,7 @@ quiet K (Overwrite slot number) = write_quiet (ltb slot (length K.held)) (ltb nu
 
 loud : (o : Option ℕ) (c : Coding) (K : Known) (call : Call) → is_rejection (number_in (tells (row_by o c K call))) ≡ true → (k : ℕ) × (o ≡ Some k)
 loud (Some k) c K call e = (k, refl)
-loud None c K call e = let q = quiet K call in let f : false ≡ true = sym q ∙ e in let z : ◌≡◌ {A = ℕ} 0 1 = cc in absurd (omega arith)
+loud None c K call e = let q = quiet K call in let f : false ≡ true = sym q ∙ e in absurd cc
 
 -- ---- an accepted install
 -- what was found of an image that was installed, under that key and over so many slots
@@ -57,7 +57,7 @@ pub record Checked (c : Coding) (slots key : ℕ) (image : List ℕ) : Type 0 wh
   pub opens : foul_refusal c key image (head_in image) ≡ None
 
 none_when_done : (o : Option Refusal) → done ≡ tells (answered o) → o ≡ None
-none_when_done (Some e) q = let z : ◌≡◌ {A = ℕ} 0 1 = cc in absurd (omega arith)
+none_when_done (Some e) q = absurd cc
 none_when_done None q = refl
 
 checked : (c : Coding) (key : ℕ) (in_force : Option ℕ) (slots : ℕ) (image : List ℕ) → program_refusal c key in_force slots image (head_in image) ≡ None → refusal_of image ≡ None → Checked c slots key image
@@ -94,7 +94,7 @@ module _ (c : Coding) (start : List ℕ) (h : List Event) where
           let slots = length (slots_in start h) in
           let b = both_none (refusal_of image.now) (program_refusal c k (version_of (program_in h)) slots image.now (head_in image.now)) (none_when_done _ e) in
           (k, a.0, a.1, subst (λ (n : ℕ). Checked c n k image.now) length_slots (checked c k (version_of (program_in h)) slots image.now b.1 b.0))
-      by None q e = let z : ◌≡◌ {A = ℕ} 0 1 = cc in absurd (omega arith)
+      by None q e = absurd cc
   meets (Fetch address) done e = tt
   meets (Overwrite slot number) done e = tt
   meets call (yielded i) e = tt

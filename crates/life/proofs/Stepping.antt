@@ -99,11 +99,3 @@ module _ (u : Suite) (lawful : Lawful u.rule u.mode u.tag) (fits : fits_mode u.m
 
   pub step : Step u s call answer u' s'
   step first start h a = (lawful_answer first start h a, agrees_on first start h a)
-
--- a call under another name
-module _ {u : Suite} {s : State} {answer : Answer} {u' : Suite} {s' : State} where
-  pub did_as : (x y : Call) → x ≡ y → Did u s x answer u' s' → Did u s y answer u' s'
-  did_as x y e d = subst (λ (z : Call). Did u s z answer u' s') e d
-
-  pub step_as : (x y : Call) → x ≡ y → Step u s x answer u' s' → Step u s y answer u' s'
-  step_as x y e d = subst (λ (z : Call). Step u s z answer u' s') e d

@@ -33,11 +33,11 @@ image_of_lem None p e = none_some e
 
 in_use : (o : Option ℕ) (c : Coding) (start : List ℕ) (h : List Event) (k : ℕ) → tells (row_by o c (known_in start h) (Load k)) ≡ refused (note_of KeyInUse) → (key : ℕ) × (o ≡ Some key)
 in_use (Some key) c start h k e = (key, refl)
-in_use None c start h k e = let z : ◌≡◌ {A = ℕ} 0 1 = cc in absurd (omega arith)
+in_use None c start h k e = absurd cc
 
 key_of_lem : (K : Option ℕ) (n : ℕ) → live_by K n ≡ true → (k : ℕ) × (K ≡ Some k)
 key_of_lem (Some k) n e = (k, refl)
-key_of_lem None n e = let z : ◌≡◌ {A = ℕ} 0 1 = cc in absurd (omega arith)
+key_of_lem None n e = absurd cc
 
 module _ (u : Suite) (lawful : Lawful u.rule u.mode u.tag) (fits : fits_mode u.mode u.tag ≡ true)
     (start : List ℕ) (h : List Event) (answered : Answered (coding u) start h)
@@ -119,7 +119,7 @@ module _ (u : Suite) (lawful : Lawful u.rule u.mode u.tag) (fits : fits_mode u.m
       let image = t.at.image in
       let m = keeping.checked image t.at.last in
       let same : m.0 ≡ t.key = let q : Some m.0 ≡ Some t.key = sym m.1 ∙ t.loaded in cc in
-      let o = all_open (record_opens c m.0 image (head_in image)) (head_in image).count t.at.slot m.2.opens t.at.within in
+      let o = all_open (record_opens c m.0 image (head_in image)) 0 (head_in image).count t.at.slot m.2.opens (omega arith) (omega (arith, t.at.within)) in
       (o.0, ap (λ (k : ℕ). record_opens c k image (head_in image) t.at.slot) (sym same) ∙ o.1)
 
   yields_record : (a i : ℕ) → call ≡ Fetch a → (t : Untouched h a) → record_opens c t.key t.at.image (head_in t.at.image) t.at.slot ≡ Some i → tells answer ≡ yielded i

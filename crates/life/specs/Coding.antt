@@ -1,6 +1,7 @@
 -- A unit's cipher and its answers, as the checks and the law speak of them.
 use Rattle.std.specs.Prelude.{ℕ, Option}
 use Rattle.cipher.specs.declared.Mode.{Mode}
+use Rattle.cipher.specs.declared.WordCipher.{Ghosts as WordCipher}
 use Rattle.cipher.specs.Word.{Rule, tweak_of, decrypted}
 use Rattle.refusal.specs.declared.Note.{Note}
 use Rattle.refusal.specs.Table.{note_of}
@@ -19,6 +20,9 @@ pub record Suite : Type 0 where
   pub rule : Rule
   pub mode : Mode
   pub tag : ℕ
+
+abbrev pub suite_of : {C : Type 0} → WordCipher C → C → Suite
+suite_of c cipher = record { rule = c.rule cipher; mode = c.mode_of cipher; tag = c.tag_of cipher }
 
 -- the coding of a cipher, whose decryption follows from its rule
 abbrev pub coding : Suite → Coding

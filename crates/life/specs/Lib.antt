@@ -1,5 +1,6 @@
 pub mod Coding
 pub mod Checks
+pub mod Records
 pub mod Deeds
 pub mod State
 pub mod History

@@ -4,9 +4,10 @@
 use refusal::Refusal;
 
 pub mod make;
+pub mod sealed;
 
 /// Whether a unit has a key: none yet, one that is live, or none since it was locked.
-#[derive(Clone, Copy)]
+#[derive(Clone, Copy, PartialEq, Eq, Debug)]
 pub enum Condition {
     Unkeyed,
     Live,
@@ -27,7 +28,7 @@ pub enum Call<'a> {
 }
 
 /// What a unit answers.
-#[derive(Clone, Copy)]
+#[derive(Clone, Copy, PartialEq, Eq, Debug)]
 pub enum Answer {
     Done,
     Instruction(u32),
@@ -36,7 +37,7 @@ pub enum Answer {
 
 /// What a unit tells of itself: the slots of its memory, the records installed, the strikes before the lock (none without
 /// a live key), and the version in force.
-#[derive(Clone, Copy)]
+#[derive(Clone, Copy, PartialEq, Eq, Debug)]
 pub struct Status {
     pub slots: u32,
     pub installed: u32,

@@ -1,31 +1,46 @@
 -- A unit's fields as the machine's state.
-use Rattle.std.specs.Prelude.{◌≡◌, length}
+use Rattle.std.specs.Prelude.{◌≡◌, ℕ, List, length, Ok, Err, Option, Result}
 use Rattle.cipher.specs.declared.WordCipher.{Ghosts as WordCipher}
 use Rattle.memory.specs.declared.Memory.{Ghosts as Memory}
+use Rattle.refusal.specs.declared.Refusal.{Refusal}
 use Rattle.unit.specs.declared.unit_core.Core.{Core}
 use Rattle.unit.specs.declared.unit.Unit.{Unit}
-use Rattle.life.specs.Coding.{Suite}
-use Rattle.life.specs.State.{CoreState, State, Did, strikes_left_of}
+use Rattle.unit.specs.Standing.{condition_of, strikes_of, version_in, base_in, count_in}
+use Rattle.life.specs.Coding.{coding}
+pub use Rattle.life.specs.Coding.{suite_of}
+use Rattle.life.specs.Checks.{install_refusal, fetch_row}
+use Rattle.life.specs.State.{CoreState, State, Did, known_by, strikes_left_of}
 use Rattle.life.specs.Life.{Step}
 use Rattle.life.specs.declared.Answer.{Answer}
+use Rattle.life.specs.declared.Answer.TheVariants.{Instruction, Refused}
 use Rattle.life.specs.declared.Call.{Call}
 use Rattle.life.specs.declared.Status.{Status}
 
 abbrev pub core_of : {C : Type 0} → WordCipher C → Core C → CoreState
 core_of c u = record {
-  condition = u.condition;
+  condition = condition_of u.standing;
   key = c.key_of u.cipher;
-  strikes = u.strikes;
-  version = u.version;
-  base = u.base;
-  count = u.count;
+  strikes = strikes_of u.standing;
+  version = version_in u.program;
+  base = base_in u.program;
+  count = count_in u.program;
 }
 
 abbrev pub state_of : {C M : Type 0} → WordCipher C → Memory M → Unit C M → State
 state_of c m u = record { core = core_of c u.core; held = m.held u.memory }
 
-abbrev pub suite_of : {C : Type 0} → WordCipher C → C → Suite
-suite_of c cipher = record { rule = c.rule cipher; mode = c.mode_of cipher; tag = c.tag_of cipher }
+-- ---- what a live core answers
+-- the first refusal that fits an image, with so many slots
+abbrev pub install_refusal_by : {C : Type 0} → WordCipher C → Core C → ℕ → List ℕ → Option Refusal
+install_refusal_by c u slots image = install_refusal (coding (suite_of c u.cipher)) (c.key_of u.cipher) (version_in u.program) slots image
+
+-- the row of a fetch, with those numbers in the slots
+abbrev pub fetch_row_by : {C : Type 0} → WordCipher C → Core C → List ℕ → ℕ → Answer
+fetch_row_by c u held address = fetch_row (coding (suite_of c u.cipher)) (c.key_of u.cipher) (known_by (core_of c u) held).program held address
+
+abbrev pub fetched : Result ℕ Refusal → Answer
+fetched (Ok i) = Instruction i
+fetched (Err e) = Refused e
 
 -- what a unit tells of itself
 abbrev pub status_of : State → Status

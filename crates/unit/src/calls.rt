@@ -9,7 +9,7 @@ ghost use Rattle.unit.specs.View.{suite_of, state_of, status_of, Keeps, Does, Li
 use crate::unit::Unit;
 use crate::unit_core::Core;
 use cipher::WordCipher;
-use life::{Answer, Call, Condition, Status};
+use life::{Answer, Call, Status};
 use memory::Memory;
 
 impl<C: WordCipher, M: Memory> Unit<C, M> {
@@ -38,7 +38,7 @@ impl<C: WordCipher, M: Memory> Unit<C, M> {
         ensures did { Does C.WordCipher M.Memory self.old (Load key) result self.new }
         ensures life { Lives C.WordCipher M.Memory self.old (Load key) result self.new }
     {
-        self.perform(Call::load(key))
+        self.perform(Call::Load { key })
     }
 
     /// Installs an image, if every check of it passes.
@@ -54,7 +54,7 @@ impl<C: WordCipher, M: Memory> Unit<C, M> {
         ensures did { Does C.WordCipher M.Memory self.old (Fetch address) result self.new }
         ensures life { Lives C.WordCipher M.Memory self.old (Fetch address) result self.new }
     {
-        self.perform(Call::fetch(address))
+        self.perform(Call::Fetch { address })
     }
 
     /// Puts a number into a slot of the memory, past the unit, as a stranger would.
@@ -62,7 +62,7 @@ impl<C: WordCipher, M: Memory> Unit<C, M> {
         ensures did { Does C.WordCipher M.Memory self.old (Overwrite slot number) result self.new }
         ensures life { Lives C.WordCipher M.Memory self.old (Overwrite slot number) result self.new }
     {
-        self.perform(Call::overwrite(slot, number))
+        self.perform(Call::Overwrite { slot, number })
     }
 
     /// What the unit tells of itself.
@@ -71,9 +71,9 @@ impl<C: WordCipher, M: Memory> Unit<C, M> {
     {
         Status {
             slots: self.memory.slots(),
-            installed: self.core.count,
+            installed: self.core.installed(),
             strikes_left: self.core.strikes_left(),
-            in_force: self.core.version,
+            in_force: self.core.in_force(),
         }
     }
 

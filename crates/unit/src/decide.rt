@@ -1,4 +1,4 @@
-// What a unit does, by one match on its condition and the call.
+// What a unit does, by one match on its standing and the call.
 ghost use Rattle.std.specs.Prelude.{◌≡◌};
 ghost use Rattle.refusal.specs.Table.{note_of};
 ghost use Rattle.life.specs.declared.Answer.TheVariants.{Refused};
@@ -6,14 +6,15 @@ ghost use Rattle.life.specs.declared.Call.TheVariants.{Install, Fetch, Overwrite
 ghost use Rattle.life.specs.declared.Condition.TheVariants.{Live};
 ghost use Rattle.life.specs.Deeds.{refused_with};
 ghost use Rattle.life.specs.State.{after};
+ghost use Rattle.unit.specs.Standing.{condition_of};
 ghost use Rattle.unit.specs.View.{state_of, Keeps, Does};
 
-use crate::checks::check_install;
 use crate::program::is_rejection;
 use crate::slots::write_records;
+use crate::standing::Standing;
 use crate::unit::Unit;
 use cipher::WordCipher;
-use life::{Answer, Call, Condition};
+use life::{Answer, Call};
 use memory::Memory;
 use refusal::Refusal;
 
@@ -22,21 +23,21 @@ impl<C: WordCipher, M: Memory> Unit<C, M> {
     pub(crate) fn decide(&mut self, call: Call<'_>) -> Answer
         ensures { Does C.WordCipher M.Memory self.old call.entry result self.new }
     {
-        match (self.core.condition, call) {
-            (Condition::Live, Call::Load { .. }) => Answer::Refused(Refusal::KeyInUse),
+        match (self.core.standing, call) {
+            (Standing::Live { .. }, Call::Load { .. }) => Answer::Refused(Refusal::KeyInUse),
             (_, Call::Load { key }) => {
                 self.core.begin(key);
                 Answer::Done
             }
-            (Condition::Live, Call::Install { image }) => self.install_live(image),
-            (Condition::Live, Call::Fetch { address }) => self.fetch_live(address),
+            (Standing::Live { .. }, Call::Install { image }) => self.install_live(image),
+            (Standing::Live { .. }, Call::Fetch { address }) => self.fetch_live(address),
+            (_, Call::Install { .. } | Call::Fetch { .. }) => Answer::Refused(Refusal::NoKey),
             (_, Call::Overwrite { slot, number }) => self.write_slot(slot, number),
-            (_, _) => Answer::Refused(Refusal::NoKey),
         }
     }
 
     fn refuse(&mut self, refusal: Refusal) -> Answer
-        requires { self.old.core.condition ≡ Live }
+        requires { condition_of self.old.core.standing ≡ Live }
         ensures answer { result ≡ Refused refusal }
         ensures after { state_of C.WordCipher M.Memory self.new ≡ after (refused_with (note_of refusal).number) (state_of C.WordCipher M.Memory self.old) }
         ensures kept { Keeps C.WordCipher M.Memory self.old.core.cipher self.old.memory self.new }
@@ -57,7 +58,7 @@ impl<C: WordCipher, M: Memory> Unit<C, M> {
     }
 
     fn fetch_live(&mut self, address: u32) -> Answer
-        requires { self.old.core.condition ≡ Live }
+        requires { condition_of self.old.core.standing ≡ Live }
         ensures { Does C.WordCipher M.Memory self.old (Fetch address) result self.new }
     {
         match self.core.look_up(&self.memory, address) {
@@ -67,14 +68,13 @@ impl<C: WordCipher, M: Memory> Unit<C, M> {
     }
 
     fn install_live(&mut self, image: &[u8]) -> Answer
-        requires { self.old.core.condition ≡ Live }
+        requires { condition_of self.old.core.standing ≡ Live }
         ensures { Does C.WordCipher M.Memory self.old (Install image.entry) result self.new }
     {
-        let slots = self.memory.slots();
-        match check_install(&self.core.cipher, self.core.version, slots, image) {
+        match self.core.check_install(self.memory.slots(), image) {
             Ok(header) => {
                 write_records(&mut self.memory, image, &header);
-                self.core.place(&header);
+                self.core.place(header);
                 Answer::Done
             }
             Err(refusal) => self.refuse(refusal),

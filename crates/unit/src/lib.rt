@@ -7,5 +7,6 @@ mod decide;
 mod program;
 pub mod run;
 mod slots;
+mod standing;
 pub mod unit;
 pub mod unit_core;

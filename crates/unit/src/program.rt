@@ -1,20 +1,19 @@
-// A unit's cipher, condition and program at work.
-ghost use Rattle.std.specs.Prelude.{◌≡◌, ◌<◌, ◌≤◌, min, length, MatchResult, slice_index};
+// A unit's cipher, standing and program at work.
+ghost use Rattle.std.specs.Prelude.{◌≡◌, ◌<◌, length, slice_index};
 ghost use Rattle.refusal.specs.Table.{note_of};
 ghost use Rattle.image.specs.Reading.{head_of};
-ghost use Rattle.life.specs.declared.Answer.TheVariants.{Instruction, Refused};
-ghost use Rattle.life.specs.Coding.{coding, opened_at};
-ghost use Rattle.life.specs.Checks.{fetch_row};
+ghost use Rattle.life.specs.declared.Condition.TheVariants.{Live};
+ghost use Rattle.life.specs.Coding.{coding, suite_of, opened_at};
 ghost use Rattle.life.specs.Deeds.{is_rejection};
 ghost use Rattle.life.specs.Deeds.Deed.{loaded};
-ghost use Rattle.life.specs.State.{unkeyed, program_by, struck, core_after, placed, strikes_left_of};
-ghost use Rattle.unit.specs.View.{core_of, suite_of};
+ghost use Rattle.life.specs.State.{unkeyed, struck, core_after, placed, strikes_left_of};
+ghost use Rattle.unit.specs.Standing.{condition_of, strikes_of, version_in, count_in};
+ghost use Rattle.unit.specs.View.{core_of, fetch_row_by, fetched};
 
-use crate::checks::open_at;
+use crate::standing::Standing;
 use crate::unit_core::Core;
-use cipher::WordCipher;
+use cipher::{WordCipher, tweak_of};
 use image::header::Header;
-use life::Condition;
 use memory::Memory;
 use refusal::Refusal;
 
@@ -26,11 +25,8 @@ impl<C: WordCipher> Core<C> {
     {
         Core {
             cipher,
-            condition: Condition::Unkeyed,
-            strikes: 0,
-            version: None,
-            base: 0,
-            count: 0,
+            standing: Standing::Unkeyed,
+            program: None,
         }
     }
 
@@ -40,58 +36,65 @@ impl<C: WordCipher> Core<C> {
         ensures suite { suite_of C.WordCipher self.new.cipher ≡ suite_of C.WordCipher self.old.cipher }
     {
         self.cipher.load(key);
-        self.condition = Condition::Live;
-        self.strikes = 0;
-        self.version = None;
-        self.base = 0;
-        self.count = 0;
+        self.standing = Standing::Live { strikes: 0 };
+        self.program = None;
     }
 
-    // One strike more; at the fourth the core is locked, and its cipher's key is zero.
+    // One strike more for a live core; at the fourth it is locked, and its cipher's key is zero.
     pub(crate) fn strike(&mut self)
-        requires { self.old.strikes ≤ 3 }
+        requires { condition_of self.old.standing ≡ Live }
         ensures after { core_of C.WordCipher self.new ≡ struck (core_of C.WordCipher self.old) }
         ensures suite { suite_of C.WordCipher self.new.cipher ≡ suite_of C.WordCipher self.old.cipher }
     {
-        if self.strikes >= 3 {
-            self.condition = Condition::Locked;
-            self.cipher.load(0);
+        match self.standing {
+            Standing::Live { strikes } if strikes < 3 => {
+                self.standing = Standing::Live {
+                    strikes: strikes + 1,
+                };
+            }
+            _ => {
+                self.standing = Standing::Locked;
+                self.cipher.load(0);
+            }
         }
-        self.strikes += 1;
     }
 
     // The program of that header is installed.
-    pub(crate) fn place(&mut self, header: &Header)
-        ensures after { core_of C.WordCipher self.new ≡ placed (head_of header.now) (core_of C.WordCipher self.old) }
+    pub(crate) fn place(&mut self, header: Header)
+        ensures after { core_of C.WordCipher self.new ≡ placed (head_of header) (core_of C.WordCipher self.old) }
         ensures suite { suite_of C.WordCipher self.new.cipher ≡ suite_of C.WordCipher self.old.cipher }
     {
-        self.version = Some(header.version());
-        self.base = header.base();
-        self.count = header.count();
+        self.program = Some(header);
+    }
+
+    // The version in force.
+    pub(crate) fn in_force(&self) -> Option<u32>
+        ensures { result ≡ version_in self.now.program }
+    {
+        self.program.map(|header| header.version())
+    }
+
+    // How many records are installed.
+    pub(crate) fn installed(&self) -> u32
+        ensures { result ≡ count_in self.now.program }
+    {
+        self.program.map_or(0, |header| header.count())
     }
 
     // How many strikes are left before the lock, and none without a live key.
     pub(crate) fn strikes_left(&self) -> u32
-        ensures { result ≡ strikes_left_of self.now.condition self.now.strikes }
+        ensures { result ≡ strikes_left_of (condition_of self.now.standing) (strikes_of self.now.standing) }
     {
-        match self.condition {
-            Condition::Live => 4 - self.strikes,
-            Condition::Unkeyed | Condition::Locked => 0,
+        match self.standing {
+            Standing::Live { strikes } => 4 - strikes,
+            Standing::Unkeyed | Standing::Locked => 0,
         }
     }
 
     pub(crate) fn into_cipher(self) -> C
         ensures { result ≡ self.cipher }
     {
-        let Core {
-            cipher,
-            condition: _,
-            strikes: _,
-            version: _,
-            base: _,
-            count: _,
-        } = self;
-        cipher
+        self.cipher
     }
 
     // What a slot yields at an address, under a version.
@@ -99,31 +102,27 @@ impl<C: WordCipher> Core<C> {
         requires { slot < length (M.held memory.now) }
         ensures { result ≡ opened_at (coding (suite_of C.WordCipher self.now.cipher)) (C.key_of self.now.cipher) version address (slice_index (M.held memory.now) slot) }
     {
-        let Ok(stored) = memory.read(slot) else {
-            return None;
-        };
-        open_at(&self.cipher, version, address, stored)
+        let stored = memory.read(slot).ok()?;
+        self.cipher.decrypt(tweak_of(version, address), stored)
     }
 
     // The instruction of an address under the live key, or the first refusal that fits.
     pub(crate) fn look_up<M: Memory>(&self, memory: &M, address: u32) -> Result<u32, Refusal>
-        ensures { MatchResult result (λ i. fetch_row (coding (suite_of C.WordCipher self.now.cipher)) (C.key_of self.now.cipher) (program_by self.now.version self.now.base (min self.now.count (length (M.held memory.now)))) (M.held memory.now) address ≡ Instruction i) (λ e. fetch_row (coding (suite_of C.WordCipher self.now.cipher)) (C.key_of self.now.cipher) (program_by self.now.version self.now.base (min self.now.count (length (M.held memory.now)))) (M.held memory.now) address ≡ Refused e) }
+        ensures { fetched result ≡ fetch_row_by C.WordCipher self.now (M.held memory.now) address }
     {
         if address % 4 != 0 {
             return Err(Refusal::Odd { address });
         }
-        let Some(version) = self.version else {
+        let Some(program) = self.program else {
             return Err(Refusal::OffMap { address });
         };
         let word = address / 4;
-        let reach = self.count.min(memory.slots());
-        if word < self.base || word - self.base >= reach {
+        let reach = program.count().min(memory.slots());
+        if word < program.base() || word - program.base() >= reach {
             return Err(Refusal::OffMap { address });
         }
-        match self.open_slot(memory, version, address, word - self.base) {
-            Some(instruction) => Ok(instruction),
-            None => Err(Refusal::Rejected { address }),
-        }
+        self.open_slot(memory, program.version(), address, word - program.base())
+            .ok_or(Refusal::Rejected { address })
     }
 }
 
@@ -131,8 +130,8 @@ impl<C: WordCipher> Core<C> {
 pub(crate) fn is_rejection(refusal: Refusal) -> bool
     ensures { result ≡ is_rejection (note_of refusal).number }
 {
-    match refusal {
-        Refusal::FoulRecord { .. } | Refusal::Rejected { .. } => true,
-        _ => false,
-    }
+    matches!(
+        refusal,
+        Refusal::FoulRecord { .. } | Refusal::Rejected { .. }
+    )
 }

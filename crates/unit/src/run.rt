@@ -21,9 +21,11 @@ pub fn run<C: WordCipher, M: Memory>(
     ensures kept { Keeps C.WordCipher M.Memory cipher memory result }
 {
     let mut unit = Unit::new(cipher, memory);
-    let places = calls.len().min(answers.len());
-    for n in 0..places {
-        answers[n] = unit.perform(calls[n]);
+    for (n, answer) in answers.iter_mut().enumerate() {
+        let Some(call) = calls.get(n) else {
+            break;
+        };
+        *answer = unit.perform(*call);
     }
     unit
 }

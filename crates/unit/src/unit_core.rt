@@ -1,19 +1,15 @@
 // What a unit knows besides its memory.
-ghost use Rattle.std.specs.Prelude.{◌≡◌, ◌+◌, ◌^◌, ◌≤◌};
-ghost use Rattle.life.specs.declared.Condition.TheVariants.{Live};
+ghost use Rattle.std.specs.Prelude.{◌≤◌};
+ghost use Rattle.unit.specs.Standing.{live_strikes};
 
-use life::Condition;
+use crate::standing::Standing;
+use image::header::Header;
 
-/// A cipher, its condition and strikes, and the program installed under it.
+/// A cipher, how it stands, and the header of the program installed under it.
 #[derive(Drop)]
 pub struct Core<C> {
     pub(crate) cipher: C,
-    pub(crate) condition: Condition,
-    pub(crate) strikes: u32,
-    pub(crate) version: Option<u32>,
-    pub(crate) base: u32,
-    pub(crate) count: u32,
-    ghost few: { strikes ≤ 4 },
-    ghost alive: { condition ≡ Live → strikes ≤ 3 },
-    ghost within: { base + count ≤ 2 ^ 30 },
+    pub(crate) standing: Standing,
+    pub(crate) program: Option<Header>,
+    ghost few: { live_strikes standing ≤ 3 },
 }

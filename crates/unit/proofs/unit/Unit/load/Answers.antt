@@ -1,7 +1,0 @@
-use Rattle.life.proofs.Stepping.{did_as, step_as}
-use Rattle.unit.proofs.unit.Unit.load.Goals as goal
-
-pub returns : goal.returns
-returns g c =
-    let done = c.perform.ensures in
-    record { did = record { machine = did_as _ _ c.load.ensures done.did.machine; rest = done.did.rest }; life = step_as _ _ c.load.ensures done.life }
