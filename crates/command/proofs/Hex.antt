@@ -1,5 +1,7 @@
 -- The numbers and the bytes of words.
-use Rattle.std.proofs.Common.{◌≡◌, ℕ, ◌+◌, ◌*◌, ◌^◌, ◌<◌, ◌≤◌, List, [], ◌∷◌, ◌++◌, get_or, drop, set, sym, refl, ap, ◌∙◌, pow-suc, add-one, arith, lit<, drop-drop, drop-set-lt}
+use Rattle.std.proofs.Common.{◌≡◌, ℕ, ◌+◌, ◌*◌, ◌^◌, ◌<◌, ◌≤◌, List, [], ◌∷◌, ◌++◌, length, length-append, length-drop, get_or, take, drop, set, sym, refl, ap, ◌∙◌, pow-suc, add-one, arith, lit<, drop-drop, drop-set-lt, take-suc-set}
+use Rattle.std.proofs.Math.Seq.{drop-append_seam}
+use Rattle.std.proofs.lemmas.List.{get_or-drop, get_or_append_left}
 use native.Mathlib.Nat.{pow-le-pow_right}
 use Rattle.command.specs.Digits.{digit_of, hex_of, byte_of, bytes_up_to}
 
@@ -28,7 +30,33 @@ hex_small v d n h l =
 pub hex_mono : (m n : ℕ) → m ≤ n → 16 ^ m ≤ 16 ^ n
 hex_mono m n h = pow-le-pow_right (let z : 0 < 16 = lit< tt in z) h
 
--- a byte written at i spares what is behind it
-pub spared_more : (b b₀ : List ℕ) (i v : ℕ) → drop i b ≡ drop i b₀ → drop (i + 1) (set b i v) ≡ drop (i + 1) b₀
-spared_more b b₀ i v e =
-    drop-set-lt (i + 1) b i v (omega arith) ∙ sym (drop-drop 1 i b) ∙ ap (drop 1) e ∙ drop-drop 1 i b₀
+-- one byte more is written
+pub put_more : (word b : List ℕ) (n m i v : ℕ) → m ≡ n + 1 → i ≡ n → n < length b → v ≡ byte_of word n → take n b ≡ bytes_up_to word n
+    → take m (set b i v) ≡ bytes_up_to word m
+put_more word b n m i v em ei inside ev h =
+    ap (λ (k : ℕ). take k (set b i v)) em ∙ ap (λ (k : ℕ). take (n + 1) (set b k v)) ei ∙ ap (λ (k : ℕ). take k (set b n v)) (add-one n) ∙ take-suc-set b n v inside
+    ∙ ap (λ (xs : List ℕ). xs ++ (v ∷ [])) h ∙ ap (λ (w : ℕ). bytes_up_to word n ++ (w ∷ [])) ev ∙ sym (bytes_more word n) ∙ ap (bytes_up_to word) (sym em)
+
+-- it spares what is behind it
+pub spared_more : (b b₀ : List ℕ) (n m i v : ℕ) → m ≡ n + 1 → i ≡ n → drop n b ≡ drop n b₀ → drop m (set b i v) ≡ drop m b₀
+spared_more b b₀ n m i v em ei e =
+    drop-set-lt m b i v (omega arith) ∙ ap (λ (k : ℕ). drop k b) em ∙ sym (drop-drop 1 n b) ∙ ap (drop 1) e ∙ drop-drop 1 n b₀ ∙ ap (λ (k : ℕ). drop k b₀) (sym em)
+
+-- two digits of a word that lie before the rest of it
+pub record Paired (word pair rest : List ℕ) (i : ℕ) : Type 0 where
+  pub byte : 16 * digit_of (get_or pair 0 0) + digit_of (get_or pair 1 0) ≡ byte_of word i
+  pub rest_of : rest ≡ drop (2 * (i + 1)) word
+  pub within : 2 * (i + 1) ≤ length word
+
+pub paired : (word pair rest : List ℕ) (i : ℕ) → drop (2 * i) word ≡ pair ++ rest → length pair ≡ 2 → 2 * i ≤ length word → Paired word pair rest i
+paired word pair rest i e l w =
+    let at : (k : ℕ) → k < 2 → get_or pair k 0 ≡ get_or word (2 * i + k) 0 =
+    λ k h. sym (get_or_append_left pair rest 0 k (omega arith)) ∙ ap (λ (z : List ℕ). get_or z k 0) (sym e) ∙ get_or-drop (2 * i) word k 0 in
+    let d : drop 2 (drop (2 * i) word) ≡ rest = ap (drop 2) e ∙ ap (λ (k : ℕ). drop k (pair ++ rest)) (sym l) ∙ drop-append_seam pair rest in
+    let first : get_or pair 0 0 ≡ get_or word (2 * i) 0 = at 0 (omega arith) ∙ ap (λ (k : ℕ). get_or word k 0) (let z : 2 * i + 0 ≡ 2 * i = omega arith in z) in
+    let second = at 1 (omega arith) in
+    record {
+      byte = ap (λ (z : ℕ). 16 * digit_of z + digit_of (get_or pair 1 0)) first ∙ ap (λ (z : ℕ). 16 * digit_of (get_or word (2 * i) 0) + digit_of z) second;
+      rest_of = sym d ∙ drop-drop 2 (2 * i) word ∙ ap (λ (k : ℕ). drop k word) (let z : 2 * i + 2 ≡ 2 * (i + 1) = omega arith in z);
+      within = omega (arith, ap length e, length-append pair rest, length-drop (2 * i) word);
+    }

@@ -6,7 +6,7 @@ ghost use Rattle.command.specs.Digits.{is_digit, digit_of, value_of, byte_of, by
 pub fn is_digit(byte: u8) -> bool
     ensures { result ≡ is_digit byte }
 {
-    (b'0' <= byte && byte <= b'9') || (b'A' <= byte && byte <= b'F')
+    matches!(byte, b'0'..=b'9' | b'A'..=b'F')
 }
 
 /// The value of a digit, and 0 of any other byte.
@@ -14,12 +14,10 @@ pub fn digit_of(byte: u8) -> u8
     ensures is { result ≡ digit_of byte }
     ensures small { result < 16 }
 {
-    if !is_digit(byte) {
-        0
-    } else if byte <= b'9' {
-        byte - b'0'
-    } else {
-        byte - b'A' + 10
+    match byte {
+        b'0'..=b'9' => byte - b'0',
+        b'A'..=b'F' => byte - b'A' + 10,
+        _ => 0,
     }
 }
 
@@ -36,37 +34,13 @@ pub(crate) fn value_of(word: &[u8]) -> u128
     value
 }
 
-// The number of a word of at most 8 digits.
-pub(crate) fn short_value(word: &[u8]) -> u32
-    requires { length word.now ≤ 8 }
-    ensures { result ≡ value_of word.now }
-{
-    value_of(word) as u32
-}
-
-// The number of a word of at most 12 digits.
-pub(crate) fn long_value(word: &[u8]) -> u64
-    requires { length word.now ≤ 12 }
-    ensures { result ≡ value_of word.now }
-{
-    value_of(word) as u64
-}
-
-// Byte `index` of a word.
-fn byte_of(word: &[u8], index: usize) -> u8
-    requires { index < length word.now / 2 }
-    ensures { result ≡ byte_of word.now index }
-{
-    16 * digit_of(word[2 * index]) + digit_of(word[2 * index + 1])
-}
-
 // Puts the bytes of a word into a buffer.
 pub(crate) fn put_bytes(word: &[u8], buffer: &mut [u8])
     requires { length word.now / 2 ≤ length buffer.old }
     ensures bytes { take (length word.now / 2) buffer.new ≡ bytes_of word.now }
     ensures spared { drop (length word.now / 2) buffer.new ≡ drop (length word.now / 2) buffer.old }
 {
-    for index in 0..word.len() / 2 {
-        buffer[index] = byte_of(word, index);
+    for (index, pair) in word.chunks_exact(2).enumerate() {
+        buffer[index] = 16 * digit_of(pair[0]) + digit_of(pair[1]);
     }
 }

@@ -4,7 +4,7 @@ ghost use Rattle.command.specs.Forms.{complete};
 ghost use Rattle.command.specs.Laws.{Judged};
 ghost use Rattle.command.specs.Lines.{command_of, meaning, said_by, commanded, meant, Sized, Lies, Spared, Within};
 
-use crate::digits::{long_value, put_bytes, short_value, value_of};
+use crate::digits::{put_bytes, value_of};
 use crate::forms::{Form, check_line};
 use refusal::Refusal;
 
@@ -91,11 +91,11 @@ fn command_of(words: Words<'_>, image: &mut [u8; 512]) -> Command
             }
         }
         Words::Address { digits, .. } => Command::Fetch {
-            address: short_value(digits),
+            address: value_of(digits) as u32,
         },
         Words::Write { slot, number, .. } => Command::Overwrite {
-            slot: short_value(slot),
-            number: long_value(number),
+            slot: value_of(slot) as u32,
+            number: value_of(number) as u64,
         },
         Words::Nothing => Command::Status,
     }
