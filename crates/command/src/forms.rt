@@ -12,16 +12,17 @@ use refusal::Refusal;
 const MOST: usize = 1024;
 
 /// What a line asks for, by its letter.
-#[derive(Clone, Copy)]
+#[derive(Clone, Copy, PartialEq, Eq, Debug)]
 pub enum Form {
-    Key,
-    Image,
-    Fetch,
-    Write,
-    Status,
+    Key = b'K' as isize,
+    Image = b'I' as isize,
+    Fetch = b'F' as isize,
+    Write = b'W' as isize,
+    Status = b'S' as isize,
 }
 
 /// The form that a letter begins, if there is one.
+// Stays: no TryFrom<char>, since the one thing that its error could say is that there is no form, and None says that.
 pub fn form_of(letter: char) -> Option<Form>
     ensures { result ≡ form_of letter }
 {
@@ -39,15 +40,10 @@ impl Form {
     fn letter(self) -> u8
         ensures { result ≡ letter_of self }
     {
-        match self {
-            Form::Key => b'K',
-            Form::Image => b'I',
-            Form::Fetch => b'F',
-            Form::Write => b'W',
-            Form::Status => b'S',
-        }
+        self as u8
     }
 
+    // Stays: no struct of a form's shape, since its columns for the even lengths of I and the second space of W would be empty in every other row.
     // The most bytes of a line of this form.
     fn most(self) -> usize
         ensures { result ≡ most_of self }
@@ -67,7 +63,7 @@ impl Form {
     {
         match self {
             Form::Key | Form::Image | Form::Fetch => place == 1,
-            Form::Write => place == 1 || place == 7,
+            Form::Write => matches!(place, 1 | 7),
             Form::Status => false,
         }
     }
@@ -92,11 +88,8 @@ impl Form {
         ensures { result ≡ complete self length }
     {
         match self {
-            Form::Key => length == 34,
             Form::Image => 4 <= length && length % 2 == 0,
-            Form::Fetch => length == 10,
-            Form::Write => length == 20,
-            Form::Status => length == 1,
+            Form::Key | Form::Fetch | Form::Write | Form::Status => length == self.most(),
         }
     }
 
@@ -105,12 +98,10 @@ impl Form {
         ensures is { result ≡ wrong_at self line.now }
         ensures inside { result ≤ length line.now }
     {
-        for place in 0..line.len() {
-            if !self.allows(place, line[place]) {
-                return place;
-            }
-        }
-        line.len()
+        line.iter()
+            .enumerate()
+            .position(|(place, byte)| !self.allows(place, *byte))
+            .unwrap_or(line.len())
     }
 }
 
@@ -127,13 +118,6 @@ fn check_form(form: Form, line: &[u8]) -> Result<Form, Refusal>
     }
 }
 
-// The first byte of a line, and 0 of an empty one.
-fn first_byte(line: &[u8]) -> u8
-    ensures { result ≡ slice_index line.now 0 }
-{
-    if line.is_empty() { 0 } else { line[0] }
-}
-
 // The form of a line, or the place at which it is garbled.
 pub(crate) fn check_line(line: &[u8]) -> Result<Form, Refusal>
     ensures means { MatchResult result (λ f. meaning line.now ≡ command_of f line.now) (λ e. meaning line.now ≡ refused e) }
@@ -141,10 +125,11 @@ pub(crate) fn check_line(line: &[u8]) -> Result<Form, Refusal>
     ensures short { OnOk result (length line.now ≤ 1024) }
 {
     if line.len() > MOST {
-        return Err(Refusal::Garbled { at: 1024 });
+        return Err(Refusal::Garbled { at: MOST as u32 });
     }
-    match form_of(char::from(first_byte(line))) {
-        Some(form) => check_form(form, line),
-        None => Err(Refusal::Garbled { at: 0 }),
-    }
+    let form = line
+        .first()
+        .and_then(|letter| form_of(char::from(*letter)))
+        .ok_or(Refusal::Garbled { at: 0 })?;
+    check_form(form, line)
 }
