@@ -3,3 +3,4 @@ mod Hex
 mod Lasting
 mod Law
 mod Spelling
+pub mod Texts
