@@ -12,8 +12,7 @@ use unit::unit::Unit;
 
 // Makes a call of the unit.
 fn perform<C: WordCipher, M: Memory>(unit: &mut Unit<C, M>, call: Call<'_>) -> Reply
-    ensures did { Performed C.rule C.mode_of C.tag_of C.key_of M.held unit.old call.entry result unit.new }
-    ensures rest { M.rest unit.new.memory ≡ M.rest unit.old.memory }
+    ensures { Performed C.WordCipher M.Memory unit.old call.entry result unit.new }
 {
     reply_of(unit.perform(call))
 }
@@ -25,8 +24,7 @@ fn carry_out<C: WordCipher, M: Memory>(
     image: &[u8; 512],
 ) -> Reply
     requires { Within command }
-    ensures did { Obeys C.rule C.mode_of C.tag_of C.key_of M.held unit.old (commanded command image.now) result unit.new }
-    ensures rest { M.rest unit.new.memory ≡ M.rest unit.old.memory }
+    ensures { Obeys C.WordCipher M.Memory unit.old (commanded command image.now) result unit.new }
 {
     match command {
         Command::Load { key } => perform(unit, Call::load(key)),
@@ -45,9 +43,9 @@ fn carry_out<C: WordCipher, M: Memory>(
 /// Answers a line: a garbled line is refused and a status told, and neither changes anything; any other line is one call
 /// of the unit, and its reply the unit's answer. So a session's history is the calls of its lines.
 pub fn answer_line<C: WordCipher, M: Memory>(unit: &mut Unit<C, M>, line: &[u8]) -> Reply
-    ensures did { Obeys C.rule C.mode_of C.tag_of C.key_of M.held unit.old (meaning line.now) result unit.new }
-    ensures life { Lasts C.rule C.mode_of C.tag_of C.key_of M.held unit.old (meaning line.now) result unit.new }
-    ensures sessions { SessionsLast C.rule C.mode_of C.tag_of C.key_of M.held }
+    ensures did { Obeys C.WordCipher M.Memory unit.old (meaning line.now) result unit.new }
+    ensures life { Lasts C.WordCipher M.Memory unit.old (meaning line.now) result unit.new }
+    ensures sessions { SessionsLast C.WordCipher M.Memory }
     ensures rest { M.rest unit.new.memory ≡ M.rest unit.old.memory }
 {
     do_line(unit, line)
@@ -55,8 +53,7 @@ pub fn answer_line<C: WordCipher, M: Memory>(unit: &mut Unit<C, M>, line: &[u8])
 
 // The same, with no theorem in its contract.
 fn do_line<C: WordCipher, M: Memory>(unit: &mut Unit<C, M>, line: &[u8]) -> Reply
-    ensures did { Obeys C.rule C.mode_of C.tag_of C.key_of M.held unit.old (meaning line.now) result unit.new }
-    ensures rest { M.rest unit.new.memory ≡ M.rest unit.old.memory }
+    ensures { Obeys C.WordCipher M.Memory unit.old (meaning line.now) result unit.new }
 {
     let mut image = [0u8; 512];
     match parse(line, &mut image) {
