@@ -1,11 +1,12 @@
 -- Laws of bits in bytes, and the steps of reading and writing a field.
 use Rattle.std.proofs.Common.{◌≡◌, ℕ, zero, suc, ◌+◌, ◌-◌, ◌*◌, ◌/◌, ◌%◌, ◌^◌, ◌<◌, ◌≤◌, ◌≢◌, ◌⊎◌, List, length, get_or, set, sym, refl, ap, ◌∙◌, subst, ap₂, inl, inr, ⊎_elim, add-zero, add_assoc, add-suc, mod-eq_of_lt, mul_assoc, pow-suc, div-one, arith, length-set, get_or-set_other, get_or-set_same}
+use lib.Bits.{bit_or}
 use native.Mathlib.Nat.{mod-one, mod-mod}
-use lib.Arith.{digits_lt}
 use lib.Pow.{mod-mod-pow}
-use Rattle.std.proofs.lemmas.Nat.{pow_pos, pow-add, shr-shr, mod-pow-add, field_of, shr_high, mod_low, shr_below, mod_below}
-use Rattle.std.proofs.lemmas.List.{same_lists, get_or_default}
-use Rattle.std.proofs.lemmas.Bool.{cases_eq, cases_lt}
+use Rattle.std.proofs.lemmas.Nat.{shr-shr, mod-pow-add, field_of, shr_high, mod_low, shl_whole, or_shifted}
+use Rattle.std.proofs.lemmas.List.{same_lists, get_or_default, get_or_past}
+use Rattle.std.proofs.lemmas.Bool.{cases_lt}
+use Rattle.bits.specs.Number.{part}
 use Rattle.bits.specs.Field.{bit_in, field, Written, ReadsBack, KeepsOthers, BitsAreAll}
 
 -- ---- fields
@@ -62,9 +63,6 @@ field_byte bs q p n h =
     let f : 7 - i ≡ q * 8 + p + n + (8 - (p + n)) - 1 - j = omega arith in
     ap (bit_in bs) e ∙ bit_byte bs q i (omega arith) ∙ ap (λ (k : ℕ). get_or bs q 0 / 2 ^ k % 2) f)
 
-above_same : (x y s d : ℕ) → x / 2 ^ s ≡ y / 2 ^ s → x / 2 ^ (s + d) ≡ y / 2 ^ (s + d)
-above_same x y s d e = sym (shr-shr x s d) ∙ ap (λ z. z / 2 ^ d) e ∙ shr-shr y s d
-
 below_bit : (x j k : ℕ) → x / 2 ^ k % 2 ≡ x % 2 ^ (j + (1 + k)) % 2 ^ (1 + k) / 2 ^ k
 below_bit x j k = sym (field_of x 1 k) ∙ ap (λ z. z / 2 ^ k) (sym (mod-mod-pow x j (1 + k)))
 
@@ -74,127 +72,119 @@ below_same x y s k h e =
     let g : s ≡ j + (1 + k) = omega arith in
     below_bit x j k ∙ ap (λ z. z % 2 ^ (1 + k) / 2 ^ k) (ap (λ t. x % 2 ^ t) (sym g) ∙ e ∙ ap (λ t. y % 2 ^ t) g) ∙ sym (below_bit y j k)
 
--- ---- a byte b with the n bits behind its first p turned to c
-abbrev pub patch : ℕ → ℕ → ℕ → ℕ → ℕ
-patch b p n c = (b / 2 ^ (8 - p) * 2 ^ n + c) * 2 ^ (8 - (p + n)) + b % 2 ^ (8 - (p + n))
+-- ---- the bytes from a up to e as one number
+byte_is : (bs : List ℕ) (i : ℕ) → get_or bs i 0 < 256 → field bs (i * 8 + 0) 8 ≡ get_or bs i 0
+byte_is bs i h = field_byte bs i 0 8 (omega arith) ∙ ap (λ (z : ℕ). z % 2 ^ 8) (div-one (get_or bs i 0)) ∙ mod-eq_of_lt h
 
-module _ (b p n c : ℕ) (fits : p + n ≤ 8) (small : c < 2 ^ n) where
-  top : patch b p n c / 2 ^ (8 - (p + n)) ≡ b / 2 ^ (8 - p) * 2 ^ n + c
-  top = shr_high _ (8 - (p + n)) _ (mod_below b _ (pow_pos _))
+-- one more byte
+pub byte_after : (bs : List ℕ) (a k v : ℕ) → k < 9 → get_or bs (a + k) 0 < 256 → v ≡ field bs (a * 8) (k * 8)
+    → bit_or (v * 2 ^ 8 % 2 ^ 128) (get_or bs (a + k) 0) ≡ field bs (a * 8) (suc k * 8)
+byte_after bs a k v l h is =
+    let b : ℕ = get_or bs (a + k) 0 in
+    let small : v < 2 ^ (k * 8) = subst (λ (n : ℕ). n < 2 ^ (k * 8)) (sym is) (field_lt bs (a * 8) (k * 8)) in
+    ap (λ (n : ℕ). bit_or n b) (shl_whole v (k * 8) 8 128 small (omega arith)) ∙ or_shifted v 8 b h
+    ∙ ap₂ (λ (n c : ℕ). n * 2 ^ 8 + c) is (sym (byte_is bs (a + k) h) ∙ ap (λ (o : ℕ). field bs o 8) (let e : (a + k) * 8 + 0 ≡ a * 8 + k * 8 = omega arith in e))
+    ∙ sym (field_split bs (a * 8) (k * 8) 8) ∙ ap (field bs (a * 8)) (let e : k * 8 + 8 ≡ suc k * 8 = omega arith in e)
 
-  patch_here : (i : ℕ) → p ≤ i → i < p + n → patch b p n c / 2 ^ (7 - i) % 2 ≡ c / 2 ^ (p + n - 1 - i) % 2
-  patch_here i l h =
-      let d : ℕ = p + n - 1 - i in
-      let e : 7 - i ≡ 8 - (p + n) + d = omega arith in
-      ap (λ (k : ℕ). patch b p n c / 2 ^ k % 2) e ∙ ap (λ (z : ℕ). z % 2) (sym (shr-shr (patch b p n c) (8 - (p + n)) d) ∙ ap (λ (z : ℕ). z / 2 ^ d) top)
-      ∙ below_same (b / 2 ^ (8 - p) * 2 ^ n + c) c n d (omega arith) (mod_low (b / 2 ^ (8 - p)) n c small ∙ sym (mod-eq_of_lt small))
+-- bit j of a field
+field_bit : (bs : List ℕ) (o w j : ℕ) → o ≤ j → j < o + w → field bs o w / 2 ^ (o + w - 1 - j) % 2 ≡ bit_in bs j
+unfolding field
+field_bit bs o w j l u =
+    let r : ℕ = o + w - 1 - j in
+    let e : w ≡ suc (j - o) + r = omega arith in
+    let q : o + (j - o) ≡ j = omega arith in
+    let lt : bit_in bs (o + (j - o)) < 2 = bit_lt bs (o + (j - o)) in
+    ap (λ (z : ℕ). field bs o z / 2 ^ r % 2) e
+    ∙ ap (λ (z : ℕ). z / 2 ^ r % 2) (field_split bs o (suc (j - o)) r)
+    ∙ ap (λ (z : ℕ). z % 2) (shr_high (field bs o (suc (j - o))) r (field bs (o + suc (j - o)) r) (field_lt bs (o + suc (j - o)) r))
+    ∙ (let p : (field bs o (j - o) * 2 + bit_in bs (o + (j - o))) % 2 ≡ bit_in bs (o + (j - o)) = omega arith in p)
+    ∙ ap (bit_in bs) q
 
-  high : patch b p n c / 2 ^ (8 - p) ≡ b / 2 ^ (8 - p)
-  high =
-      let e : 8 - p ≡ 8 - (p + n) + n = omega arith in
-      ap (λ k. patch b p n c / 2 ^ k) e ∙ sym (shr-shr _ (8 - (p + n)) n) ∙ ap (λ z. z / 2 ^ n) top ∙ shr_high _ n c small
+-- past the end all bits are 0
+past_end : (xs ys : List ℕ) (j : ℕ) → length ys ≡ length xs → length xs * 8 ≤ j → bit_in ys j ≡ bit_in xs j
+unfolding bit_in
+past_end xs ys j long l = ap (λ (b : ℕ). b / 2 ^ (7 - j % 8) % 2) (get_or_past ys (j / 8) 0 (omega arith) ∙ sym (get_or_past xs (j / 8) 0 (omega arith)))
 
-  patch_before : (i : ℕ) → i < p → patch b p n c / 2 ^ (7 - i) % 2 ≡ b / 2 ^ (7 - i) % 2
-  patch_before i h =
-      let d : ℕ = 7 - i - (8 - p) in
-      let e : 7 - i ≡ 8 - p + d = omega arith in
-      ap (λ k. patch b p n c / 2 ^ k % 2) e ∙ ap (λ z. z % 2) (above_same _ _ (8 - p) d high) ∙ ap (λ k. b / 2 ^ k % 2) (sym e)
+module _ (o a e w r : ℕ) (begins : a * 8 ≤ o) (ends : o + w + r ≡ e * 8) where
+  -- the field that stands in them, before the last r bits
+  pub part_is : (bs : List ℕ) → part (field bs (a * 8) ((e - a) * 8)) r w ≡ field bs o w
+  part_is bs =
+      let d : ℕ = o - a * 8 in
+      let k : (e - a) * 8 ≡ d + w + r = omega arith in
+      let q : a * 8 + d ≡ o = omega arith in
+      ap (λ (z : ℕ). part (field bs (a * 8) z) r w) k
+      ∙ ap (λ (z : ℕ). z / 2 ^ r % 2 ^ w) (field_split bs (a * 8) (d + w) r)
+      ∙ ap (λ (z : ℕ). z % 2 ^ w) (shr_high (field bs (a * 8) (d + w)) r _ (field_lt bs (a * 8 + (d + w)) r) ∙ field_split bs (a * 8) d w)
+      ∙ mod_low (field bs (a * 8) d) w (field bs (a * 8 + d) w) (field_lt bs (a * 8 + d) w)
+      ∙ ap (λ (z : ℕ). field bs z w) q
 
-  patch_after : (i : ℕ) → p + n ≤ i → i < 8 → patch b p n c / 2 ^ (7 - i) % 2 ≡ b / 2 ^ (7 - i) % 2
-  patch_after i h l = below_same _ _ (8 - (p + n)) (7 - i) (omega arith) (mod_low _ (8 - (p + n)) _ (mod_below b _ (pow_pos _)))
-
-  pub head_lt : b < 256 → b / 2 ^ (8 - p) * 2 ^ n + c < 2 ^ p * 2 ^ n
-  head_lt h =
-      let e : p + (8 - p) ≡ 8 = omega arith in
-      digits_lt (shr_below b p (8 - p) (subst (λ k. b < 2 ^ k) (sym e) h)) small
-
-  pub patch_lt : b < 256 → patch b p n c < 256
-  patch_lt h =
-      let e : p + n + (8 - (p + n)) ≡ 8 = omega arith in
-      let f : 2 ^ p * 2 ^ n * 2 ^ (8 - (p + n)) ≡ 256 = ap (λ z. z * 2 ^ (8 - (p + n))) (sym (pow-add 2 p n)) ∙ sym (pow-add 2 (p + n) (8 - (p + n))) ∙ ap (λ k. 2 ^ k) e in
-      subst (λ k. patch b p n c < k) f (digits_lt (head_lt h) (mod_below b _ (pow_pos _)))
-
--- ---- bytes with one byte patched
-module _ (bs : List ℕ) (q p n c : ℕ) (within : q < length bs) (fits : p + n ≤ 8) (small : c < 2 ^ n) where
-  abbrev after : List ℕ
-  after = set bs q (patch (get_or bs q 0) p n c)
-
-  at_byte : (i : ℕ) → i < 8 → bit_in after (q * 8 + i) ≡ patch (get_or bs q 0) p n c / 2 ^ (7 - i) % 2
-  at_byte i h = bit_byte after q i h ∙ ap (λ z. z / 2 ^ (7 - i) % 2) (get_or-set_same bs q _ 0 within)
-
-  same_byte : (i : ℕ) → i < 8 → (i < p) ⊎ (p + n ≤ i) → bit_in after (q * 8 + i) ≡ bit_in bs (q * 8 + i)
-  same_byte i h out =
-      at_byte i h
-      ∙ ⊎_elim (λ l. patch_before (get_or bs q 0) p n c fits small i l) (λ l. patch_after (get_or bs q 0) p n c fits small i l h) out
-      ∙ sym (bit_byte bs q i h)
-
-  other_byte : (j : ℕ) → (j / 8 ≢ q) → bit_in after j ≡ bit_in bs j
-  unfolding bit_in
-  other_byte j ne = ap (λ z. z / 2 ^ (7 - j % 8) % 2) (get_or-set_other bs q (j / 8) _ 0 ne)
-
-  pub one_patched : Written bs after (q * 8 + p) n c
-  one_patched = record {
-    long = length-set bs q _;
-    inside = λ j a b _.
-        let i : ℕ = j - q * 8 in
-        let e : j ≡ q * 8 + i = omega arith in
-        let f : p + n - 1 - i ≡ q * 8 + p + n - 1 - j = omega arith in
-        ap (bit_in after) e ∙ at_byte i (omega arith) ∙ patch_here (get_or bs q 0) p n c fits small i (omega arith) (omega arith) ∙ ap (λ (k : ℕ). c / 2 ^ k % 2) f;
-    outside = λ j out. ⊎_elim
-        (λ e. let g : j ≡ q * 8 + j % 8 = omega arith in
-        ap (bit_in after) g ∙ same_byte (j % 8) (omega arith) (⊎_elim (λ l. inl (omega arith)) (λ l. inr (omega arith)) out) ∙ ap (bit_in bs) (sym g))
-        (λ ne. other_byte j ne) (cases_eq (j / 8) q);
+  -- where the number's bits are turned to those of v in the field's place, writing the number writes the field
+  pub span_written : (xs ys : List ℕ) (n v : ℕ) → ((k : ℕ) → k < w → n / 2 ^ (r + k) % 2 ≡ v / 2 ^ k % 2)
+      → ((k : ℕ) → (k < r) ⊎ (r + w ≤ k) → n / 2 ^ k % 2 ≡ field xs (a * 8) ((e - a) * 8) / 2 ^ k % 2)
+      → Written xs ys (a * 8) ((e - a) * 8) n → Written xs ys o w v
+  span_written xs ys n v inside outside h = record {
+    long = h.long;
+    inside = λ j l u b.
+        h.inside j (omega arith) (omega arith) b
+        ∙ ap (λ (k : ℕ). n / 2 ^ k % 2) (let q : a * 8 + (e - a) * 8 - 1 - j ≡ r + (o + w - 1 - j) = omega arith in q)
+        ∙ inside (o + w - 1 - j) (omega arith);
+    outside = λ j out. elim (cases_lt j (a * 8)) [
+      | inl l ↦ h.outside j (inl l)
+      | inr l ↦
+          elim (cases_lt j (e * 8)) [
+            | inl u ↦ elim (cases_lt j (length xs * 8)) [
+              | inl b ↦
+                  h.inside j l (omega arith) (omega arith)
+                  ∙ outside (a * 8 + (e - a) * 8 - 1 - j) (⊎_elim (λ k. inr (omega arith)) (λ k. inl (omega arith)) out)
+                  ∙ field_bit xs (a * 8) ((e - a) * 8) j l (omega arith)
+              | inr b ↦ past_end xs ys j h.long (omega arith)
+            ]
+            | inr u ↦ h.outside j (inr (omega arith))
+          ]
+    ];
   }
 
--- a byte past the end is not written
-pub none_there : (bs : List ℕ) (q p n c : ℕ) → length bs ≤ q → p + n ≤ 8 → Written bs bs (q * 8 + p) n c
-none_there bs q p n c l h = record {
-  long = refl;
-  inside = λ j a b w. absurd (omega arith);
-  outside = λ j _. refl;
-}
-
--- ---- the loops: d bits of w are read or written
-pub read_step : (bs : List ℕ) (o d n v more : ℕ) → (o % 8 + d) % 8 + n ≤ 8 → v ≡ field bs o d
-    → more ≡ get_or bs (o / 8 + (o % 8 + d) / 8) 0 / 2 ^ (8 - ((o % 8 + d) % 8 + n)) % 2 ^ n → v * 2 ^ n + more ≡ field bs o (d + n)
-read_step bs o d n v more fits is p =
-    let e : (o / 8 + (o % 8 + d) / 8) * 8 + (o % 8 + d) % 8 ≡ o + d = omega arith in
-    ap₂ (λ x y. x * 2 ^ n + y) is (p ∙ sym (field_byte bs (o / 8 + (o % 8 + d) / 8) ((o % 8 + d) % 8) n fits) ∙ ap (λ k. field bs k n) e)
-    ∙ sym (field_split bs o d n)
-
--- what is written so far: the first d bits of the w bits of v
+-- ---- bytes written one by one, the last first
 pub none_written : (xs : List ℕ) (o v : ℕ) → Written xs xs o 0 v
 none_written xs o v = record { long = refl; inside = λ j a b _. absurd (omega arith); outside = λ j _. refl }
 
-pub write_step : (xs ys zs : List ℕ) (o d w n v : ℕ) → n ≤ w - d → d ≤ w
-    → Written xs ys o d (v / 2 ^ (w - d)) → Written ys zs ((o / 8 + (o % 8 + d) / 8) * 8 + (o % 8 + d) % 8) n (v / 2 ^ (w - d - n) % 2 ^ n)
-    → Written xs zs o (d + n) (v / 2 ^ (w - (d + n)))
-write_step xs ys zs o d w n v room below before here = record {
-  long = here.long ∙ before.long;
-  inside = λ j a b l. elim (cases_lt j (o + d)) [ inl k ↦ old j a k l | inr k ↦ new j k b l ];
-  outside = λ j out.
-      here.outside j (⊎_elim (λ k. inl (omega arith)) (λ k. inr (omega arith)) out)
-      ∙ before.outside j (⊎_elim (λ k. inl (omega arith)) (λ k. inr (omega arith)) out);
+-- a byte past the end is not written
+pub none_there : (bs : List ℕ) (i c : ℕ) → length bs ≤ i → Written bs bs (i * 8) 8 c
+none_there bs i c l = record { long = refl; inside = λ j a b w. absurd (omega arith); outside = λ j _. refl }
+
+other_byte : (bs : List ℕ) (i j c : ℕ) → j / 8 ≢ i → bit_in (set bs i c) j ≡ bit_in bs j
+unfolding bit_in
+other_byte bs i j c ne = ap (λ (z : ℕ). z / 2 ^ (7 - j % 8) % 2) (get_or-set_other bs i (j / 8) c 0 ne)
+
+pub one_there : (bs : List ℕ) (i c : ℕ) → i < length bs → Written bs (set bs i (c % 256)) (i * 8) 8 c
+one_there bs i c within = record {
+  long = length-set bs i _;
+  inside = λ j a b _.
+      let p : ℕ = j - i * 8 in
+      let e : j ≡ i * 8 + p = omega arith in
+      ap (bit_in (set bs i (c % 256))) e ∙ bit_byte (set bs i (c % 256)) i p (omega arith)
+      ∙ ap (λ (z : ℕ). z / 2 ^ (7 - p) % 2) (get_or-set_same bs i _ 0 within)
+      ∙ below_same (c % 256) c 8 (7 - p) (omega arith) (mod-mod c 256)
+      ∙ ap (λ (k : ℕ). c / 2 ^ k % 2) (let q : 7 - p ≡ i * 8 + 8 - 1 - j = omega arith in q);
+  outside = λ j out. other_byte bs i j _ (⊎_elim (λ l. omega arith) (λ l. omega arith) out);
 }
-  where
-    q : (o / 8 + (o % 8 + d) / 8) * 8 + (o % 8 + d) % 8 ≡ o + d
-    q = omega arith
 
-    bit_of_lem : (a k : ℕ) → v / 2 ^ a / 2 ^ k % 2 ≡ v / 2 ^ (a + k) % 2
-    bit_of_lem a k = ap (λ (z : ℕ). z % 2) (shr-shr v a k)
-
-    old : (j : ℕ) → o ≤ j → j < o + d → j / 8 < length xs → bit_in zs j ≡ v / 2 ^ (w - (d + n)) / 2 ^ (o + (d + n) - 1 - j) % 2
-    old j a k l =
-        here.outside j (inl (omega arith)) ∙ before.inside j a k l ∙ bit_of_lem (w - d) (o + d - 1 - j)
-        ∙ ap (λ (z : ℕ). v / 2 ^ z % 2) (let e : w - d + (o + d - 1 - j) ≡ w - (d + n) + (o + (d + n) - 1 - j) = omega arith in e)
-        ∙ sym (bit_of_lem (w - (d + n)) (o + (d + n) - 1 - j))
-
-    new : (j : ℕ) → o + d ≤ j → j < o + (d + n) → j / 8 < length xs → bit_in zs j ≡ v / 2 ^ (w - (d + n)) / 2 ^ (o + (d + n) - 1 - j) % 2
-    new j k b l =
-        here.inside j (omega arith) (omega arith) (let e : length ys ≡ length xs = before.long in omega arith)
-        ∙ ap (λ (z : ℕ). v / 2 ^ (w - d - n) % 2 ^ n / 2 ^ z % 2) (let e : (o / 8 + (o % 8 + d) / 8) * 8 + (o % 8 + d) % 8 + n - 1 - j ≡ o + (d + n) - 1 - j = omega arith in e)
-        ∙ below_same (v / 2 ^ (w - d - n) % 2 ^ n) (v / 2 ^ (w - d - n)) n (o + (d + n) - 1 - j) (omega arith) (mod-mod (v / 2 ^ (w - d - n)) (2 ^ n))
-        ∙ ap (λ (z : ℕ). v / 2 ^ z / 2 ^ (o + (d + n) - 1 - j) % 2) (let e : w - d - n ≡ w - (d + n) = omega arith in e)
+-- the low b bits of v, and then those above in front of them
+pub written_before : (xs ys zs : List ℕ) (o a b v : ℕ) → Written xs ys (o + a) b v → Written ys zs o a (v / 2 ^ b) → Written xs zs o (a + b) v
+written_before xs ys zs o a b v low high = record {
+  long = high.long ∙ low.long;
+  inside = λ j l u w. elim (cases_lt j (o + a)) [
+    | inl k ↦
+        high.inside j l k (let e : length ys ≡ length xs = low.long in omega arith)
+        ∙ ap (λ (z : ℕ). z % 2) (shr-shr v b (o + a - 1 - j)) ∙ ap (λ (z : ℕ). v / 2 ^ z % 2) (let e : b + (o + a - 1 - j) ≡ o + (a + b) - 1 - j = omega arith in e)
+    | inr k ↦
+        high.outside j (inr k) ∙ low.inside j k (omega arith) w
+        ∙ ap (λ (z : ℕ). v / 2 ^ z % 2) (let e : o + a + b - 1 - j ≡ o + (a + b) - 1 - j = omega arith in e)
+  ];
+  outside = λ j out.
+      high.outside j (⊎_elim (λ k. inl k) (λ k. inr (omega arith)) out)
+      ∙ low.outside j (⊎_elim (λ k. inl (omega arith)) (λ k. inr (omega arith)) out);
+}
 
 pub reads_back : ReadsBack
 reads_back xs ys o w v h room =
@@ -204,9 +194,6 @@ reads_back xs ys o w v h room =
 pub keeps_others : KeepsOthers
 keeps_others xs ys o w v h p u out =
     field_same ys xs p u (λ j a b. h.outside j (⊎_elim (λ l. inl (omega arith)) (λ l. inr (omega arith)) out))
-
-byte_is : (bs : List ℕ) (q : ℕ) → get_or bs q 0 < 256 → field bs (q * 8 + 0) 8 ≡ get_or bs q 0
-byte_is bs q h = field_byte bs q 0 8 (omega arith) ∙ ap (λ (z : ℕ). z % 2 ^ 8) (div-one (get_or bs q 0)) ∙ mod-eq_of_lt h
 
 pub bits_are_all : BitsAreAll
 bits_are_all xs ys hx hy long same =

@@ -1,2 +1,5 @@
 pub mod Numbers
 pub mod Fields
+pub mod Folds
+pub mod Setting
+pub mod Patching

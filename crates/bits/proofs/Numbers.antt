@@ -1,9 +1,11 @@
 -- The bits of a number determine it, and any bits are a number's.
 use Rattle.std.proofs.Common.{◌≡◌, ℕ, zero, suc, ◌+◌, ◌-◌, ◌*◌, ◌/◌, ◌%◌, ◌^◌, ◌<◌, ◌≤◌, Bool, true, false, eqb, sym, refl, ap, ◌∙◌, subst, ap₂, inl, inr, mod-lt, mod-eq_of_lt, mul_assoc, add_comm, pow-suc, add-one, arith, lit<, pow_pos, pow_mono, pow-add, shl_exact}
 use native.Mathlib.Nat.{add-mul-div_right, mul-add-mod_self_right, div-eq_of_lt, mod-one}
-use lib.Bits.{bit_or, or_shifted_r}
+use lib.Bits.{bit_and, bit_or, or_shifted_r}
 use lib.Pow.{mod-pow-add, high}
-use Rattle.std.proofs.lemmas.Nat.{shr-shr}
+use Rattle.std.proofs.lemmas.Nat.{shr-shr, one_shl, and_mask}
+use Rattle.std.proofs.lemmas.Nat.Bits.{bit_at_above, bit_at-lt, same_from_bits}
+use Rattle.std.specs.Int.{bit_at}
 use Rattle.std.proofs.lemmas.Bool.{cases_lt}
 use Rattle.bits.specs.Number.{bit, digit, number, part, BitsDetermine, BitsAreFree, PartBits}
 
@@ -65,6 +67,17 @@ bit-number (suc n) f i h = elim (cases_lt i n) [ inl l ↦ lower l (bit-number n
         ∙ ap (λ (z : ℕ). eqb (z % 2) 1) (ap (λ (z : ℕ). z / 2 ^ n) (add_comm (number n f) (digit (f n) * 2 ^ n)) ∙ high (digit (f n)) n (number_lt n f))
         ∙ bit-digit (f n) ∙ ap f (sym e)
 
+-- a number is known by its bits
+pub number_from_bits : (n r : ℕ) (f : ℕ → Bool) → ((i : ℕ) → i < n → bit r i ≡ f i) → ((i : ℕ) → n ≤ i → bit r i ≡ false) → r ≡ number n f
+number_from_bits n r f low high =
+    same_from_bits r (number n f)
+    (λ i. sym (digit-bit (bit_at r i) (bit_at-lt r i))
+    ∙ ap digit (elim (cases_lt i n) [
+      | inl l ↦ low i l ∙ sym (bit-number n f i l)
+      | inr l ↦ high i l ∙ ap (λ (z : ℕ). eqb z 1) (sym (bit_at_above (number n f) n i (number_lt n f) l))
+    ])
+    ∙ digit-bit (bit_at (number n f) i) (bit_at-lt (number n f) i))
+
 pub bits_determine : BitsDetermine
 bits_determine n x y hx hy e = sym (number_self n x hx) ∙ number_ext n (bit x) (bit y) e ∙ number_self n y hy
 
@@ -85,6 +98,15 @@ high_zero x w k h l = div-eq_of_lt (let p : 2 ^ w ≤ 2 ^ k = pow_mono l in omeg
 
 pub low_all : (x w k : ℕ) → x < 2 ^ w → w ≤ k → x % 2 ^ k ≡ x
 low_all x w k h l = mod-eq_of_lt (let p : 2 ^ w ≤ 2 ^ k = pow_mono l in omega arith)
+
+pub shifted_past : (x k : ℕ) → x < 2 ^ 128 → 128 ≤ k → x / 2 ^ k ≡ 0
+shifted_past x k h l = high_zero x 128 k h l
+
+pub masked : (x k p : ℕ) → k < 128 → p ≡ 1 * 2 ^ k % 2 ^ 128 → bit_and x (p - 1) ≡ x % 2 ^ k
+masked x k p l e = ap (λ (z : ℕ). bit_and x (z - 1)) (e ∙ one_shl k 128 l) ∙ and_mask x k
+
+pub low_all_128 : (x k : ℕ) → x < 2 ^ 128 → 128 ≤ k → x % 2 ^ k ≡ x
+low_all_128 x k h l = low_all x 128 k h l
 
 -- ---- a loop that sets the bits from the lowest up: r has those below n
 pub number_more : (n : ℕ) (f : ℕ → Bool) (r s : ℕ) (b : Bool) → r ≡ number n f → b ≡ f n → s ≡ r + digit b * 2 ^ n → s ≡ number (n + 1) f

@@ -1,5 +1,5 @@
 -- A state is a number, and its bits are counted from the lowest, bit 0.
-use Rattle.std.specs.Prelude.{◌≡◌, ℕ, zero, suc, ◌+◌, ◌*◌, ◌/◌, ◌%◌, ◌^◌, ◌<◌, Bool, true, false, not, ◌==◌}
+use Rattle.std.specs.Prelude.{◌≡◌, ◌≢◌, ℕ, zero, suc, ◌+◌, ◌*◌, ◌/◌, ◌%◌, ◌^◌, ◌<◌, Bool, true, false, not, ◌==◌}
 
 -- exclusive or
 infixl 30 ◌⊕◌
@@ -24,6 +24,11 @@ number (suc n) f = number n f + digit (f n) * 2 ^ n
 -- the n bits of x from bit a on, as a number
 abbrev pub part : ℕ → ℕ → ℕ → ℕ
 part x a n = x / 2 ^ a % 2 ^ n
+
+-- of 128 bits, after is before with b as bit i
+pub record SetsBit (before after i : ℕ) (b : Bool) : Type 0 where
+  pub same : i < 128 → bit after i ≡ b
+  pub others : (j : ℕ) → j ≢ i → bit after j ≡ bit before j
 
 -- two numbers of n bits with the same bits are the same number
 abbrev pub BitsDetermine : Type 0

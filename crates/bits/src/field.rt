@@ -1,16 +1,18 @@
-// Fields of bits in bytes, most significant bit first, a byte at a time.
-ghost use Rattle.std.specs.Prelude.{◌≡◌, ◌+◌, ◌-◌, ◌*◌, ◌/◌, ◌%◌, ◌^◌, ◌<◌, ◌≤◌, min, slice_index};
+// Fields of bits in bytes, most significant bit first: the bytes that a field touches are taken as one number.
+ghost use Rattle.std.specs.Prelude.{◌≡◌, ℕ, ◌+◌, ◌-◌, ◌*◌, ◌/◌, ◌%◌, ◌^◌, ◌<◌, ◌≤◌, ◌⊎◌, min, slice_index};
+ghost use Rattle.std.specs.Int.{bit_at};
 ghost use Rattle.bits.specs.Field.{field, Written, ReadsBack, KeepsOthers, BitsAreAll};
-ghost use Rattle.bits.specs.Number.{part};
 
-use crate::{cut, low_bits, shifted};
+use crate::part_of;
 
 /// The number of `width` bits from bit `offset` on; bits past the end are 0, and of a wider field the first 64 are read.
+#[tactic(auto, using(crate::proofs::Fields::part_is))]
 pub fn read_field(bytes: &[u8], offset: usize, width: u32) -> u64
     ensures is { result ≡ field bytes.now offset (min width 64) }
     ensures fits { result < 2 ^ min width 64 }
 {
-    read_bits(bytes, offset, width.min(64))
+    let span = Span::of_field(offset, width);
+    part_of(span.number(bytes), span.rest, span.width) as u64
 }
 
 /// Turns the `width` bits from bit `offset` on to the low bits of `value`, and no other bit; bits past the end are not
@@ -21,100 +23,76 @@ pub fn write_field(bytes: &mut [u8], offset: usize, width: u32, value: u64)
     ensures others { KeepsOthers }
     ensures all { BitsAreAll }
 {
-    write_bits(bytes, offset, width.min(64), value);
+    let span = Span::of_field(offset, width);
+    let number = span.patched(span.number(bytes), value);
+    span.write(bytes, number);
 }
 
-fn read_bits(bytes: &[u8], offset: usize, width: u32) -> u64
-    requires { width ≤ 64 }
-    ensures { result ≡ field bytes.now offset width }
-{
-    let mut done = 0;
-    let mut v = 0;
-    while done < width {
-        let at = (offset % 8) as u32 + done;
-        let n = chunk(at % 8, width - done);
-        let byte = byte_at(bytes, offset / 8 + (at / 8) as usize);
-        v = append(v, n, bits_of_byte(byte, at % 8, n));
-        done += n;
+// The bytes from `first` up to `end`, which a field of `width` bits touches; behind it stand `rest` bits of the last.
+#[derive(Clone, Copy)]
+struct Span {
+    first: usize,
+    end: usize,
+    width: u32,
+    rest: u32,
+    ghost ordered: { first ≤ end },
+    ghost few: { end ≤ first + 9 },
+    ghost short: { width ≤ 64 },
+    ghost tail: { rest < 8 },
+}
+
+impl Span {
+    // Of a field wider than 64 bits, the span of the first 64.
+    fn of_field(offset: usize, width: u32) -> Span
+        ensures begins { result.first * 8 ≤ offset }
+        ensures width { result.width ≡ min width 64 }
+        ensures ends { offset + result.width + result.rest ≡ result.end * 8 }
+    {
+        let first = offset / 8;
+        let skip = (offset % 8) as u32;
+        let width = width.min(64);
+        let count = (skip + width).div_ceil(8);
+        Span {
+            first,
+            end: first + count as usize,
+            width,
+            rest: count * 8 - skip - width,
+        }
     }
-    v
-}
 
-fn write_bits(bytes: &mut [u8], offset: usize, width: u32, value: u64)
-    requires { width ≤ 64 }
-    ensures { Written bytes.old bytes.new offset width value }
-{
-    let mut done = 0;
-    while done < width {
-        let at = (offset % 8) as u32 + done;
-        let n = chunk(at % 8, width - done);
-        let new = next_bits(value, width, done, n);
-        write_byte(bytes, offset / 8 + (at / 8) as usize, at % 8, n, new);
-        done += n;
+    // The bytes as one number, the first the highest.
+    fn number(self, bytes: &[u8]) -> u128
+        ensures { result ≡ field bytes.now (self.first * 8) ((self.end - self.first) * 8) }
+    {
+        (self.first..self.end).fold(0, |number, i| number << 8 | u128::from(byte_at(bytes, i)))
+    }
+
+    // That number with the field's bits turned to the low bits of `value`.
+    #[tactic(auto, using(crate::proofs::Patching::patching))]
+    fn patched(self, number: u128, value: u64) -> u128
+        ensures inside { (k : ℕ) → k < self.width → bit_at result (self.rest + k) ≡ bit_at value k }
+        ensures outside { (k : ℕ) → (k < self.rest) ⊎ (self.rest + self.width ≤ k) → bit_at result k ≡ bit_at number k }
+    {
+        let mask = (1 << (self.rest + self.width)) - (1 << self.rest);
+        number & !mask | u128::from(value) << self.rest & mask
+    }
+
+    // Turns the bytes to the low bytes of `number`, as far as there are bytes.
+    fn write(self, bytes: &mut [u8], number: u128)
+        ensures { Written bytes.old bytes.new (self.first * 8) ((self.end - self.first) * 8) number }
+    {
+        let mut left = number;
+        for i in (self.first..self.end).rev() {
+            if i < bytes.len() {
+                bytes[i] = (left % 256) as u8;
+            }
+            left >>= 8;
+        }
     }
 }
 
-// The n bits behind the first `done` of the low `width` bits of a value.
-fn next_bits(value: u64, width: u32, done: u32, n: u32) -> u64
-    requires { (done + n ≤ width) × (n ≤ 8) }
-    ensures { result ≡ part value (width - done - n) n }
+fn byte_at(bytes: &[u8], i: usize) -> u8
+    ensures { result ≡ slice_index bytes.now i }
 {
-    cut(value as u128, width - done - n, n) as u64
-}
-
-// The n bits behind the first p of byte q, turned to the n bits of new, if there is such a byte.
-fn write_byte(bytes: &mut [u8], q: usize, p: u32, n: u32, new: u64)
-    requires { (p + n ≤ 8) × (new < 2 ^ n) }
-    ensures { Written bytes.old bytes.new (q * 8 + p) n new }
-{
-    if q < bytes.len() {
-        bytes[q] = patched(bytes[q], p, n, new);
-    }
-}
-
-// How many of the bits that are left lie in the byte that has p bits behind.
-fn chunk(p: u32, left: u32) -> u32
-    requires { (p < 8) × (0 < left) }
-    ensures { (0 < result) × ((p + result ≤ 8) × (result ≤ left)) }
-{
-    left.min(8 - p)
-}
-
-fn byte_at(bytes: &[u8], q: usize) -> u8
-    ensures { result ≡ slice_index bytes.now q }
-{
-    if q < bytes.len() { bytes[q] } else { 0 }
-}
-
-// The n bits of a byte behind its first p.
-fn bits_of_byte(byte: u8, p: u32, n: u32) -> u64
-    requires { p + n ≤ 8 }
-    ensures { result ≡ byte / 2 ^ (8 - (p + n)) % 2 ^ n }
-{
-    cut(byte as u128, 8 - (p + n), n) as u64
-}
-
-// v, and after it the n bits of more.
-fn append(v: u64, n: u32, more: u64) -> u64
-    requires { (n ≤ 8) × ((more < 2 ^ n) × (v * 2 ^ n + more < 2 ^ 64)) }
-    ensures { result ≡ v * 2 ^ n + more }
-{
-    v * power(n) + more
-}
-
-// The byte with the n bits behind its first p turned to new.
-fn patched(byte: u8, p: u32, n: u32, new: u64) -> u8
-    requires { (p + n ≤ 8) × (new < 2 ^ n) }
-    ensures { result ≡ (byte / 2 ^ (8 - p) * 2 ^ n + new) * 2 ^ (8 - (p + n)) + byte % 2 ^ (8 - (p + n)) }
-{
-    let rest = 8 - (p + n);
-    let high = append(shifted(byte as u128, 8 - p) as u64, n, new);
-    append(high, rest, low_bits(byte as u128, rest) as u64) as u8
-}
-
-fn power(n: u32) -> u64
-    requires { n ≤ 8 }
-    ensures { result ≡ 2 ^ n }
-{
-    1 << n
+    bytes.get(i).copied().unwrap_or(0)
 }

@@ -2,7 +2,7 @@
 #![tactic(auto)]
 
 ghost use Rattle.std.specs.Prelude.{◌≡◌, ◌/◌, ◌%◌, ◌^◌, ◌<◌};
-ghost use Rattle.bits.specs.Number.{bit, part, BitsDetermine, BitsAreFree, PartBits};
+ghost use Rattle.bits.specs.Number.{bit, part, SetsBit, BitsDetermine, BitsAreFree, PartBits};
 
 pub mod field;
 
@@ -10,7 +10,7 @@ pub mod field;
 pub fn bit_at(x: u128, i: u32) -> bool
     ensures { result ≡ bit x i }
 {
-    low_bits(shifted(x, i), 1) == 1
+    shifted(x, i) % 2 == 1
 }
 
 /// The `count` bits of `x` from bit `start` on, as a number; bits past the highest are 0.
@@ -21,30 +21,31 @@ pub fn part_of(x: u128, start: u32, count: u32) -> u128
     ensures determined { BitsDetermine }
     ensures free { BitsAreFree }
 {
-    cut(x, start, count)
-}
-
-pub(crate) fn cut(x: u128, start: u32, count: u32) -> u128
-    ensures { result ≡ part x start count }
-{
     low_bits(shifted(x, start), count)
 }
 
-pub(crate) fn shifted(x: u128, by: u32) -> u128
+/// `x` with `b` as bit `i`; past the highest bit there is none to set.
+#[tactic(auto, using(crate::proofs::Setting::one_bit))]
+pub fn with_bit(x: u128, i: u32, b: bool) -> u128
+    ensures { SetsBit x result i b }
+{
+    match 1u128.checked_shl(i) {
+        Some(place) if b => x | place,
+        Some(place) => x & !place,
+        None => x,
+    }
+}
+
+#[tactic(auto, using(crate::proofs::Numbers::shifted_past))]
+fn shifted(x: u128, by: u32) -> u128
     ensures { result ≡ x / 2 ^ by }
 {
-    if by < 128 { x >> by } else { 0 }
+    x.checked_shr(by).unwrap_or(0)
 }
 
-pub(crate) fn low_bits(x: u128, count: u32) -> u128
+#[tactic(auto, using(crate::proofs::Numbers::masked, crate::proofs::Numbers::low_all_128))]
+fn low_bits(x: u128, count: u32) -> u128
     ensures { result ≡ x % 2 ^ count }
 {
-    if count < 128 { masked(x, count) } else { x }
-}
-
-fn masked(x: u128, count: u32) -> u128
-    requires { count < 128 }
-    ensures { result ≡ x % 2 ^ count }
-{
-    x & ((1 << count) - 1)
+    1u128.checked_shl(count).map_or(x, |power| x & (power - 1))
 }
