@@ -1,7 +1,10 @@
 -- ChiChi and its inverse undo each other, at every even m above 2.
 use Rattle.std.proofs.Common.{◌≡◌, ℕ, zero, suc, ◌+◌, ◌-◌, ◌*◌, ◌/◌, ◌%◌, ◌^◌, ◌<◌, Bool, false, sym, refl, ap, ◌∙◌, subst, arith}
 use Rattle.bits.specs.Number.{bit}
-use Rattle.bits.proofs.Numbers.{number_lt, number_ext, number_bits, bit-number}
+use Rattle.bits.proofs.Numbers.{number_lt, number_ext, number_bits, bit-number, only_one}
+use Rattle.layers.specs.Widths.{half, size}
+use Rattle.layers.specs.declared.width.Width.{Width}
+use Rattle.layers.specs.declared.width.Width.TheVariants.{W32, W40, W64, W128}
 use Rattle.layers.specs.ChiChi.{chi_bit, chichi}
 use Rattle.layers.specs.Inverse.{Pair, walk, around, fixed_pair, state_bit, chichi⁻¹, Undoes, Undone}
 use Rattle.layers.proofs.Walks.{Odd, odd, odd-walk, one_end}
@@ -53,3 +56,32 @@ chichi_lt m x = number_lt (m + m) (chi_bit m (bit x))
 pub chichi⁻¹_lt : (m y : ℕ) → chichi⁻¹ m y < 2 ^ (m + m)
 unfolding chichi⁻¹
 chichi⁻¹_lt m y = number_lt (m + m) (state_bit m (bit y) (fixed_pair m (bit y)))
+
+-- ---- at the four widths
+half_even : (w : Width) → half w % 2 ≡ 0
+half_even W32 = refl
+half_even W40 = refl
+half_even W64 = refl
+half_even W128 = refl
+
+half_above : (w : Width) → 2 < half w
+half_above W32 = omega arith
+half_above W40 = omega arith
+half_above W64 = omega arith
+half_above W128 = omega arith
+
+module _ (w : Width) (y r : ℕ) (is : r ≡ chichi⁻¹ (half w) y) where
+  pub inverse_fits : r < 2 ^ size w
+  inverse_fits = subst (λ (z : ℕ). z < 2 ^ size w) (sym is) (chichi⁻¹_lt (half w) y)
+
+  pub is_argument : chichi (half w) r ≡ y % 2 ^ size w
+  is_argument = ap (chichi (half w)) is ∙ chichi_undone (half w) y (half_even w) (half_above w)
+
+  pub no_other : (x : ℕ) → x < 2 ^ size w → chichi (half w) x ≡ y % 2 ^ size w → x ≡ r
+  no_other x small e =
+      only_one (size w) (chichi (half w)) (chichi⁻¹ (half w))
+      (λ x. chichi_undoes (half w) x (half_even w) (half_above w)) (λ y. chichi_undone (half w) y (half_even w) (half_above w))
+      (chichi⁻¹_lt (half w)) x y small e
+      ∙ sym is
+
+pub ruleset inversion = (inverse_fits, is_argument, no_other, chichi_undoes, chichi_undone)

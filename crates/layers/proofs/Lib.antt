@@ -1,4 +1,4 @@
 pub mod Walks
 pub mod Systems
 pub mod Bijection
-pub mod Downward
+pub mod States

@@ -1,7 +1,6 @@
 -- Walks of an odd number of steps have a closed form, and so going round twice ends at one pair.
 use Rattle.std.proofs.Common.{◌≡◌, ℕ, zero, suc, ◌+◌, ◌-◌, ◌<◌, ◌≤◌, Bool, true, false, not, ◌&&◌, sym, refl, ap, ◌∙◌, arith}
 use Rattle.bits.specs.Number.{◌⊕◌}
-use Rattle.layers.specs.ChiChi.{gate}
 use Rattle.layers.specs.Inverse.{Pair, step, walk, cross, back}
 
 -- the closed form, in four bits
@@ -91,9 +90,8 @@ module _ (c0 c1 c2 c3 : Bool) (f g : Pair → Pair) (o : Odd f) (r : Odd g) wher
       ∙ sym (round_is (round c0 c1 c2 c3 f g (false, false)) ∙ ap swap_of (round_is (false, false)))
 
 -- a loop's step: one bit further down, on a walk that ends at t
-pub walk_more : (y : ℕ → Bool) (i t : ℕ) (s p : Pair) (g : Bool) → 0 < i → i ≤ t → p ≡ walk y i (t - i) s
-    → g ≡ gate (y (i - 1)) p.0 p.1 → ◌≡◌ {A = Pair} (g, p.0) (walk y (i - 1) (t - (i - 1)) s)
-walk_more y i t s p g pos l e q =
+pub walk_more : (y : ℕ → Bool) (i t : ℕ) (s p q : Pair) → 0 < i → i ≤ t → p ≡ walk y i (t - i) s → q ≡ step (y (i - 1)) p → q ≡ walk y (i - 1) (t - (i - 1)) s
+walk_more y i t s p q pos l e is =
     let a : i ≡ i - 1 + 1 = omega arith in
     let b : suc (t - i) ≡ t - (i - 1) = omega arith in
-    (λ z. (q z, p.0)) ∙ ap (step (y (i - 1))) (e ∙ ap (λ (z : ℕ). walk y z (t - i) s) a) ∙ ap (λ (z : ℕ). walk y (i - 1) z s) b
+    is ∙ ap (step (y (i - 1))) (e ∙ ap (λ (z : ℕ). walk y z (t - i) s) a) ∙ ap (λ (z : ℕ). walk y (i - 1) z s) b
