@@ -102,6 +102,7 @@ impl WordCipher for ChiLow {
         self.seal(tweak, instruction)
     }
 
+    #[tactic(auto, using(crate::specs::Sealing::opened_is))]
     fn decrypt(&self, tweak: u64, stored: u64) -> Option<u32> {
         self.open(tweak, stored)
     }

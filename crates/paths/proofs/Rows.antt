@@ -130,4 +130,4 @@ pub last_row : (p : Path) (s : Schedules) (x : ℕ) → get_or (table 9 (data_af
 unfolding outcome
 last_row p s x = table_at _ 9 8 (omega arith)
 
-pub ruleset decrypting = (last_row, outcome_lt)
+pub ruleset decrypting = (last_row, outcome_lt, schedules_decrypt)

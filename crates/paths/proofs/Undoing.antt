@@ -1,5 +1,6 @@
 -- Encryption and decryption undo each other: round by round, and over any masks.
-use Rattle.std.proofs.Common.{◌≡◌, ℕ, zero, suc, ◌-◌, ◌^◌, ◌<◌, Bool, true, false, cond, sym, refl, ap, ◌∙◌, mod-eq_of_lt, arith, lit<}
+use Rattle.std.proofs.lemmas.Grind.{common_steps}
+use Rattle.std.proofs.Common.{length-append, length, ◌++◌, [], ◌∷◌, List, get_or, ◌≡◌, ℕ, zero, suc, ◌^◌, ◌<◌, Bool, true, false, cond, sym, refl, ap, ap₂, ◌∙◌, mod-eq_of_lt, arith, lit<}
 use lib.Bits.{bit_xor, xor_assoc, xor_self, xor_zero_r, xor_lt}
 use Rattle.bits.proofs.Numbers.{part_lt}
 use Rattle.layers.specs.Inverse.{chichi⁻¹}
@@ -92,11 +93,27 @@ module _ (v : Mode) (ms : ℕ → ℕ) where
   after_before (suc i) y h =
       ap (λ (z : ℕ). data_round (data_path v) i z (ms i)) (after_before i (undo_round v i y (ms i)) (undo_lt v i (ms i) y)) ∙ redo_round v i (ms i) y h
 
-  -- a loop's step down
-  pub before_more : (i y s : ℕ) → 0 < i → s ≡ undo_round v (i - 1) y (ms (i - 1)) → data_before v ms s (i - 1) ≡ data_before v ms y i
-  unfolding data_before
-  before_more i y s l e =
-      ap (λ (z : ℕ). data_before v ms z (i - 1)) e ∙ ap (data_before v ms y) (let q : suc (i - 1) ≡ i = omega arith in q)
+-- the masks that a loop from the last to the first has left
+pub record Left (masks rest : List ℕ) : Type 0 where
+  pub at : (k : ℕ) → k < length rest → get_or rest k 0 ≡ get_or masks k 0
+
+left_fewer : (masks rest more : List ℕ) (x : ℕ) → more ≡ rest ++ x ∷ [] → Left masks more → Left masks rest × (x ≡ get_or masks (length rest) 0)
+left_fewer masks rest more x e p = (
+  record { at = λ k l. grind (arith, common_steps, e, p.at k (omega (arith, ap length e, length-append rest (x ∷ [])))) },
+  grind (arith, common_steps, e, p.at (length rest) (omega (arith, ap length e, length-append rest (x ∷ [])))),
+)
+
+-- its step: round i undone, of the mask x
+pub before_fewer : (v : Mode) (masks rest more : List ℕ) (x i y s : ℕ) → more ≡ rest ++ x ∷ [] → i ≡ length rest → s ≡ undo_round v i y x → Left masks more
+    → Left masks rest × (data_before v (λ k. get_or masks k 0) s (length rest) ≡ data_before v (λ k. get_or masks k 0) y (length more))
+unfolding data_before
+before_fewer v masks rest more x i y s e j r p =
+    let q = left_fewer masks rest more x e p in
+    let n : suc (length rest) ≡ length more = omega (arith, ap length e, length-append rest (x ∷ [])) in (
+      q.0,
+      ap (λ (z : ℕ). data_before v (λ k. get_or masks k 0) z (length rest)) (r ∙ ap₂ (λ (a b : ℕ). undo_round v a y b) j q.1)
+          ∙ ap (data_before v (λ k. get_or masks k 0) y) n,
+    )
 
 -- ---- by schedules
 scheduled : (v : Mode) (k t x : ℕ) → outcome (data_path v) (schedules v k t) x ≡ decryption (data_path v) k t x
@@ -140,3 +157,5 @@ encryption_undone v k t y h = sym (scheduled v k t (source v (schedules v k t) y
 pub encryption_lt : (v : Mode) (k t y : ℕ) → y < 2 ^ width v → encryption v k t y < 2 ^ width v
 unfolding encryption
 encryption_lt v k t y h = source_lt v (schedules v k t) (data_lt v k) y h
+
+pub ruleset undoing = (source_lt, encryption_undoes, encryption_undone)

@@ -9,6 +9,7 @@ use layers::nonlinear::chi_chi;
 use linear::apply;
 
 /// The data state at first, a whitened `x`, and after each of the eight rounds.
+#[tactic(auto, using(schedule::proofs::Tables::tables), unfolding(crate::specs::Data::data_after))]
 pub fn data_states(path: Path, masks: &[u64; 8], x: u64) -> [u64; 9]
     ensures { result ≡ table 9 (data_after path (λ i. slice_index masks.now i) x) }
 {

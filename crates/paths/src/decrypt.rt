@@ -27,8 +27,7 @@ impl Schedules {
         ensures fits { result < 2 ^ size (width_of path) }
         ensures law { SchedulesDecrypt }
     {
-        let states = self.states(path, x);
-        states[8]
+        self.states(path, x)[8]
     }
 
     fn states(&self, path: Path, x: u64) -> [u64; 9]

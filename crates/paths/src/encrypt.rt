@@ -14,18 +14,12 @@ use linear::{DataMap, apply_inverse};
 
 impl Schedules {
     /// The block that eight rounds make `y` of.
-    #[tactic(auto, using(crate::proofs::Undoing::source_lt))]
+    #[tactic(auto, using(crate::proofs::Undoing::undoing))]
     pub fn encrypt(&self, mode: Mode, y: u64) -> u64
         ensures is { result ≡ source mode self.now y }
         ensures fits { self.now.keys.«data» < 2 ^ width mode → y < 2 ^ width mode → result < 2 ^ width mode }
         ensures undoes { EncryptionUndoes }
         ensures undone { EncryptionUndone }
-    {
-        self.sealed(mode, y)
-    }
-
-    fn sealed(&self, mode: Mode, y: u64) -> u64
-        ensures { result ≡ source mode self.now y }
     {
         undo_rounds(mode, &self.tweaks.masks, y) ^ self.keys.data
     }
@@ -35,8 +29,8 @@ fn undo_rounds(mode: Mode, masks: &[u64; 8], y: u64) -> u64
     ensures { result ≡ data_before mode (λ i. slice_index masks.now i) y 8 }
 {
     let mut state = y;
-    for i in (0..8).rev() {
-        state = undo_round(mode, i, state, masks[i]);
+    for (i, mask) in masks.iter().enumerate().rev() {
+        state = undo_round(mode, i, state, *mask);
     }
     state
 }

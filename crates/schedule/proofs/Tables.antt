@@ -1,10 +1,10 @@
 -- Loops that fill a table, the next place from the one before.
-use Rattle.std.proofs.Common.{◌≡◌, ℕ, suc, ◌+◌, ◌<◌, ◌≤◌, cond, List, length, get_or, set, replicate, sym, refl, ap, ◌∙◌, subst, add-one, arith, length-set}
+use Rattle.std.proofs.Common.{◌≡◌, ℕ, suc, ◌+◌, ◌<◌, ◌≤◌, cond, List, length, get_or, set, replicate, sym, ap, ◌∙◌, subst, add-one, arith, length-set}
 use lib.ListN.{length-replicate}
 use Rattle.std.proofs.lemmas.List.FromFn.{fill_by_all, get_or-map-range_with_len, length-map-range_with_len}
 use Rattle.std.proofs.lemmas.List.Edits.{fill_by_more}
 use Rattle.cipher.specs.declared.Mode.{Mode}
-use Rattle.schedule.specs.Schedule.{◌⊻◌, table, inner, key_round, key_after, tweak_after}
+use Rattle.schedule.specs.Schedule.{table, inner, key_round, key_after}
 
 -- xs has n places, and those below i are f's
 pub record Filled (f : ℕ → ℕ) (n : ℕ) (xs : List ℕ) (i : ℕ) : Type 0 where
@@ -50,18 +50,9 @@ pub table_from : (f : ℕ → ℕ) (xs : List ℕ) (n : ℕ) → length xs ≡ n
 unfolding table
 table_from f xs n s p = fill_by_all f xs n 0 s p
 
--- ---- the rows of the schedules
-pub key_after_none : (v : Mode) (k : ℕ) → key_after v k 0 ≡ k
-unfolding key_after
-key_after_none v k = refl
-
 pub key_after_next : (v : Mode) (k i : ℕ) → key_after v k (i + 1) ≡ cond (inner i) (key_round v i (key_after v k i)) (key_after v k i)
 unfolding key_after
 key_after_next v k i = ap (key_after v k) (add-one i)
 
-pub tweak_after_none : (w : ℕ) (ws : ℕ → ℕ) (t : ℕ) → tweak_after w ws t 0 ≡ t ⊻ w
-unfolding tweak_after
-tweak_after_none w ws t = refl
-
 -- what the loops and tables of this crate need
-pub ruleset tables = (filled_none, filled_first, filled_all, table_from, table_at, key_after_none, key_after_next, tweak_after_none)
+pub ruleset tables = (filled_none, filled_first, filled_all, table_from, table_at, key_after_next)

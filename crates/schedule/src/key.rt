@@ -21,7 +21,7 @@ pub struct KeySchedule {
 }
 
 /// The key state at first and after each of the eight rounds.
-#[tactic(auto, using(crate::proofs::Tables::tables))]
+#[tactic(auto, using(crate::proofs::Tables::tables), unfolding(crate::specs::Schedule::key_after))]
 pub fn key_states(mode: Mode, key: u128) -> [u128; 9]
     ensures { result ≡ table 9 (key_after mode key) }
 {

@@ -16,7 +16,7 @@ pub struct TweakSchedule {
 }
 
 /// The tweak states and masks of the eight rounds.
-#[tactic(auto, using(crate::proofs::Tables::tables))]
+#[tactic(auto, using(crate::proofs::Tables::tables), unfolding(crate::specs::Schedule::tweak_after))]
 pub fn tweak_schedule(keys: &KeySchedule, tweak: u64) -> TweakSchedule
     ensures { result ≡ tweak_schedule keys.now tweak }
 {

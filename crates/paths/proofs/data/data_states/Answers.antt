@@ -1,11 +1,7 @@
-use Rattle.std.proofs.Common.{ℕ, get_or, refl, ap, ◌∙◌, arith}
-use Rattle.schedule.proofs.Tables.{filled_first, filled_next, filled_last, filled_all}
+use Rattle.std.proofs.Common.{ℕ, get_or, ap, ◌∙◌, arith}
+use Rattle.schedule.proofs.Tables.{filled_next, filled_last}
 use Rattle.paths.specs.Data.{data_round, data_after}
 use Rattle.paths.proofs.data.data_states.Goals as goal
-
-pub loop-i-init : goal.loop-i-init
-unfolding data_after
-loop-i-init c = filled_first (data_after c.args.path (λ (k : ℕ). get_or c.args.masks.now k 0) c.args.x) 8 _ refl
 
 pub loop-i-preserved : goal.loop-i-preserved
 unfolding data_after
@@ -15,7 +11,3 @@ loop-i-preserved c =
     (c.data_round.ensures
     ∙ ap (λ (s : ℕ). data_round c.args.path c.loop-i.i s (get_or c.args.masks.now c.loop-i.i 0)) (filled_last f 9 c.loop-i.states c.loop-i.i c.loop-i.invariant))
     c.loop-i.invariant
-
-pub returns : goal.returns
-returns c =
-    filled_all (data_after c.args.path (λ (k : ℕ). get_or c.args.masks.now k 0) c.args.x) 9 c.loop-i.states _ (omega arith) c.loop-i.invariant
