@@ -1,7 +1,7 @@
 -- The slots of a chip of bytes.
 use Rattle.std.proofs.Common.{◌≡◌, ℕ, ◌+◌, ◌*◌, ◌<◌, ◌≤◌, ◌⊎◌, List, length, get_or, take, drop, sym, refl, ap, ◌∙◌, inl, inr, ⊎_elim, arith, rules}
 use borrow.Rule.Slice.PartMut.{put_mid}
-use Rattle.std.proofs.lemmas.List.{places, get_or-take, get_or-drop}
+use Rattle.std.proofs.lemmas.List.{places}
 use Rattle.std.proofs.lemmas.Slice.{drop-put_mid}
 use Rattle.std.proofs.lemmas.Bool.{cases_lt}
 use Rattle.std.proofs.lemmas.Grind.{common_steps}
@@ -12,21 +12,10 @@ use Rattle.chips.specs.Elements.{length-packed, get_or-packed}
 
 -- equal bytes, equal numbers
 six_cong : (x y : List ℕ) (a c : ℕ) → ((j : ℕ) → j < 6 → get_or x (a + j) 0 ≡ get_or y (c + j) 0) → six_at x a ≡ six_at y c
-six_cong x y a c f =
-    let za : a + 0 ≡ a = omega arith in
-    let zc : c + 0 ≡ c = omega arith in
-    let e₀ : get_or x a 0 ≡ get_or y c 0 = ap (λ z. get_or x z 0) (sym za) ∙ f 0 (omega arith) ∙ ap (λ z. get_or y z 0) zc in
-    let e₁ = f 1 (omega arith) in
-    let e₂ = f 2 (omega arith) in
-    let e₃ = f 3 (omega arith) in
-    let e₄ = f 4 (omega arith) in
-    let e₅ = f 5 (omega arith) in
-    cc
+six_cong x y a c f = grind (arith, f 0, f 1, f 2, f 3, f 4, f 5)
 
 pub six_part : (b : List ℕ) (a m : ℕ) → m ≡ 6 → six_at (take m (drop a b)) 0 ≡ six_at b a
-six_part b a m e =
-    six_cong (take m (drop a b)) b 0 a
-    (λ j l. let z : 0 + j ≡ j = omega arith in rw z (get_or-take m (drop a b) j 0 (omega arith) ∙ get_or-drop a b j 0))
+six_part b a m e = grind (arith, common_steps)
 
 six_back : (n : ℕ) → n < wide → six_at (six_bytes n) 0 ≡ n
 six_back n h = omega arith

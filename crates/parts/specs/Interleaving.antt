@@ -2,16 +2,13 @@
 use Rattle.std.specs.Prelude.{◌≡◌, ℕ, zero, suc, ◌+◌, ◌*◌, ◌/◌, ◌%◌, ◌<◌, min, List, [], ◌∷◌, length, take, slice_index, refl}
 use Rattle.std.proofs.Common.{sym, ap, ◌∙◌, ⊎_elim, arith, eq-eqb, ne_eqb}
 use Rattle.std.proofs.lemmas.List.{length-take, get_or-take}
-use Rattle.std.proofs.lemmas.Bool.{cases_eq}
+use Rattle.std.proofs.lemmas.Bool.Decides.{nat_tests}
 use Rattle.memory.specs.Slots.{most}
 use Rattle.parts.specs.declared.place.Place.{Place}
 use Rattle.parts.specs.declared.place.Place.TheVariants.{First, Second}
 use Rattle.parts.specs.Parts.{woven, interleaved, interleaved_count, interleaved_first, interleaved_second}
 use Rattle.parts.specs.Places.{interleaved_place}
 use Rattle.parts.specs.Laws.{Laid, Arranges}
-
-get_or_cut : (n : ℕ) (slots : List ℕ) (s : ℕ) → s < length (take n slots) → slice_index (take n slots) s ≡ slice_index slots s
-get_or_cut n slots s h = get_or-take n slots s 0 (omega (arith, length-take n slots))
 
 length-woven : (a b : List ℕ) → length (woven a b) ≡ 2 * min (length a) (length b)
 unfolding woven
@@ -39,9 +36,9 @@ length-interleaved : (a b : List ℕ) → length (interleaved a b) ≡ interleav
 unfolding interleaved
 length-interleaved a b = length-take most (woven a b) ∙ ap (λ z. min most z) (length-woven a b)
 
-get_or-interleaved : (a b : List ℕ) (s : ℕ) → s < length (interleaved a b) → slice_index (interleaved a b) s ≡ slice_index (woven a b) s
+get_or-interleaved : (a b : List ℕ) (s : ℕ) → s < most → slice_index (interleaved a b) s ≡ slice_index (woven a b) s
 unfolding interleaved
-get_or-interleaved a b s h = get_or_cut most (woven a b) s h
+get_or-interleaved a b s h = get_or-take most (woven a b) s 0 h
 
 interleaved_laid : (a b : List ℕ) → Laid interleaved_place (interleaved_first (length a) (length b)) (interleaved_second (length a) (length b)) (interleaved a b) a b
 interleaved_laid a b =
@@ -49,35 +46,13 @@ interleaved_laid a b =
     record {
       enough_a = omega arith;
       enough_b = omega arith;
-      inside = λ s h.
-          ⊎_elim (λ (l : s % 2 ≡ 0). let t = eq-eqb (s % 2) 0 l in rw t (omega arith))
-          (λ (l : s % 2 ≡ 0 → ⊥). let t = ne_eqb (s % 2) 0 l in rw t (omega arith)) (cases_eq (s % 2) 0);
-      value = λ s h.
-          get_or-interleaved a b s h
-          ∙ ⊎_elim
-          (λ (l : s % 2 ≡ 0).
-          let t = eq-eqb (s % 2) 0 l in
-          let e : s ≡ 2 * (s / 2) = omega arith in
-          rw t (ap (λ z. slice_index (woven a b) z) e ∙ woven_even a b (s / 2) (omega arith) (omega arith)))
-          (λ (l : s % 2 ≡ 0 → ⊥).
-          let t = ne_eqb (s % 2) 0 l in
-          let e : s ≡ suc (2 * (s / 2)) = omega arith in
-          rw t (ap (λ z. slice_index (woven a b) z) e ∙ woven_odd a b (s / 2) (omega arith) (omega arith)))
-          (cases_eq (s % 2) 0);
+      inside = λ s h. grind (arith, nat_tests);
+      value = λ s h. get_or-interleaved a b s (omega arith) ∙ grind (arith, nat_tests, woven_even a b (s / 2), woven_odd a b (s / 2));
     }
 
 -- no two slots have one place
 interleaved_apart : (i j : ℕ) → interleaved_place i ≡ interleaved_place j → i ≡ j
-interleaved_apart i j e = sym (back i) ∙ ap slot_of e ∙ back j
-  where
-    slot_of : Place → ℕ
-    slot_of (First i) = 2 * i
-    slot_of (Second i) = 2 * i + 1
-
-    back : (s : ℕ) → slot_of (interleaved_place s) ≡ s
-    back s =
-        ⊎_elim (λ (l : s % 2 ≡ 0). let t = eq-eqb (s % 2) 0 l in rw t (omega arith))
-        (λ (l : s % 2 ≡ 0 → ⊥). let t = ne_eqb (s % 2) 0 l in rw t (omega arith)) (cases_eq (s % 2) 0)
+interleaved_apart i j e = grind (arith, nat_tests)
 
 pub interleaved-arranges : Arranges interleaved interleaved_count interleaved_first interleaved_second (λ _ s. interleaved_place s)
 interleaved-arranges =
