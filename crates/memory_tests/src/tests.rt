@@ -7,7 +7,6 @@ use parts::joined::Joined;
 use refusal::{Layer, Note, Refusal};
 use std::alloc::{AllocError, Global};
 use std::process::Abort;
-use std::test::Fail;
 
 const WIDEST: u64 = 0xffff_ffff_ffff;
 
@@ -16,33 +15,28 @@ fn number_for(slot: u32) -> u64 {
     (slot as u64 % 0x1_0000 + 1) * 0x1_0305_070b % 0x1_0000_0000_0000
 }
 
-fn check_refused(rt: &impl Abort, refusal: Refusal, number: u32, place: u32) -> Result<(), Fail> {
+// What a refusal of a memory tells.
+fn told(number: u32, place: u32) -> Note {
+    Note {
+        number,
+        place,
+        layer: Layer::Memory,
+    }
+}
+
+fn check_holds<M: Memory>(rt: &impl Abort, memory: &M, slot: u32, number: u64) {
+    assert_eq!(rt; memory.read(slot).map_err(Refusal::note), Ok(number));
+}
+
+fn check_written<M: Memory>(rt: &impl Abort, memory: &mut M, slot: u32, number: u64) {
+    assert_eq!(rt; memory.write(slot, number).map_err(Refusal::note), Ok(()));
+}
+
+fn check_no_read<M: Memory>(rt: &impl Abort, memory: &M, slot: u32) {
     assert_eq!(rt;
-        refusal.note(),
-        Note {
-            number,
-            place,
-            layer: Layer::Memory,
-        }
+        memory.read(slot).map_err(Refusal::note),
+        Err(told(12, slot))
     );
-    Ok(())
-}
-
-fn check_holds<M: Memory>(rt: &impl Abort, memory: &M, slot: u32, number: u64) -> Result<(), Fail> {
-    match memory.read(slot) {
-        Ok(found) => {
-            assert_eq!(rt; found, number);
-            Ok(())
-        },
-        Err(_) => Err(Fail::new("a slot is not read")),
-    }
-}
-
-fn check_written<M: Memory>(memory: &mut M, slot: u32, number: u64) -> Result<(), Fail> {
-    match memory.write(slot, number) {
-        Ok(()) => Ok(()),
-        Err(_) => Err(Fail::new("a slot is not written")),
-    }
 }
 
 fn check_no_write<M: Memory>(
@@ -51,52 +45,44 @@ fn check_no_write<M: Memory>(
     slot: u32,
     number: u64,
     refusal: u32,
-) -> Result<(), Fail> {
-    match memory.write(slot, number) {
-        Ok(()) => Err(Fail::new("a write is not refused")),
-        Err(e) => check_refused(rt, e, refusal, slot),
-    }
-}
-
-fn check_no_read<M: Memory>(rt: &impl Abort, memory: &M, slot: u32) -> Result<(), Fail> {
-    match memory.read(slot) {
-        Ok(_) => Err(Fail::new("a read is not refused")),
-        Err(e) => check_refused(rt, e, 12, slot),
-    }
+) {
+    assert_eq!(rt;
+        memory.write(slot, number).map_err(Refusal::note),
+        Err(told(refusal, slot))
+    );
 }
 
 // Past the end nothing is read or written.
-fn check_past_the_end<M: Memory>(rt: &impl Abort, memory: &mut M, slots: u32) -> Result<(), Fail> {
-    check_no_read(rt, memory, slots)?;
-    check_no_read(rt, memory, 0xffff_ffff)?;
-    check_no_write(rt, memory, slots, 0, 12)?;
-    check_no_write(rt, memory, slots, WIDEST + 1, 12)?;
-    check_no_write(rt, memory, 0xffff_ffff, u64::MAX, 12)
+fn check_past_the_end<M: Memory>(rt: &impl Abort, memory: &mut M, slots: u32) {
+    check_no_read(rt, memory, slots);
+    check_no_read(rt, memory, 0xffff_ffff);
+    check_no_write(rt, memory, slots, 0, 12);
+    check_no_write(rt, memory, slots, WIDEST + 1, 12);
+    check_no_write(rt, memory, 0xffff_ffff, u64::MAX, 12);
 }
 
 // A number that is too wide is not written, and the widest is.
-fn check_width<M: Memory>(rt: &impl Abort, memory: &mut M, slot: u32) -> Result<(), Fail> {
-    check_no_write(rt, memory, slot, WIDEST + 1, 13)?;
-    check_no_write(rt, memory, slot, u64::MAX, 13)?;
-    check_holds(rt, memory, slot, number_for(slot))?;
-    check_written(memory, slot, WIDEST)?;
-    check_holds(rt, memory, slot, WIDEST)
+fn check_width<M: Memory>(rt: &impl Abort, memory: &mut M, slot: u32) {
+    check_no_write(rt, memory, slot, WIDEST + 1, 13);
+    check_no_write(rt, memory, slot, u64::MAX, 13);
+    check_holds(rt, memory, slot, number_for(slot));
+    check_written(rt, memory, slot, WIDEST);
+    check_holds(rt, memory, slot, WIDEST);
 }
 
 // Writes each slot, reads all back, and asks past the end and past the width.
-fn exercise<M: Memory>(rt: &impl Abort, memory: &mut M, slots: u32) -> Result<(), Fail> {
+fn exercise<M: Memory>(rt: &impl Abort, memory: &mut M, slots: u32) {
     assert_eq!(rt; memory.slots(), slots);
     for slot in 0..slots {
-        check_written(memory, slot, number_for(slot))?;
+        check_written(rt, memory, slot, number_for(slot));
     }
     for slot in 0..slots {
-        check_holds(rt, memory, slot, number_for(slot))?;
+        check_holds(rt, memory, slot, number_for(slot));
     }
-    check_past_the_end(rt, memory, slots)?;
+    check_past_the_end(rt, memory, slots);
     for slot in 0..slots {
-        check_width(rt, memory, slot)?;
+        check_width(rt, memory, slot);
     }
-    Ok(())
 }
 
 // Bytes of a chip, and its slots.
@@ -112,14 +98,13 @@ const PACKED: [(usize, u32); 8] = [
 ];
 
 #[test]
-fn packed_of_each_size(rt: HostRuntime) -> Result<(), Fail> {
+fn packed_of_each_size(rt: HostRuntime) {
     for (size, slots) in PACKED {
         let mut chip = [0xffu8; 64];
         assert!(rt; size <= 64);
         let mut memory = Packed::new(&mut chip[0..size]);
-        exercise(&rt, &mut memory, slots)?;
+        exercise(&rt, &mut memory, slots);
     }
-    Ok(())
 }
 
 // Words of both chips, and the slots.
@@ -133,16 +118,15 @@ const PAIRED: [(usize, usize, u32); 6] = [
 ];
 
 #[test]
-fn paired_of_each_size(rt: HostRuntime) -> Result<(), Fail> {
+fn paired_of_each_size(rt: HostRuntime) {
     for (highs, lows, slots) in PAIRED {
         let mut high = [0xffff_ffffu32; 16];
         let mut low = [0xffffu16; 16];
         assert!(rt; highs <= 16);
         assert!(rt; lows <= 16);
         let mut memory = Paired::new(&mut high[0..highs], &mut low[0..lows]);
-        exercise(&rt, &mut memory, slots)?;
+        exercise(&rt, &mut memory, slots);
     }
-    Ok(())
 }
 
 // Bytes of three chips, words of a pair, and the slots of both nestings.
@@ -154,9 +138,13 @@ const NESTED: [(usize, usize, usize, usize, u32, u32); 5] = [
     (0, 64, 64, 16, 32, 32),
 ];
 
-#[test]
-fn joined_three_deep(rt: HostRuntime) -> Result<(), Fail> {
-    for (one, two, three, words, slots, _) in NESTED {
+// Lends chips of each row's sizes, and says how many slots both nestings have.
+fn lend_all<F>(rt: &impl Abort, nest: F)
+where
+    F: Fn(&mut [u8], &mut [u8], &mut [u8], &mut [u32], &mut [u16], (u32, u32)),
+    requires { F.IsAlwaysCallable nest }
+{
+    for (one, two, three, words, joined, interleaved) in NESTED {
         let mut a = [0xffu8; 64];
         let mut b = [0xffu8; 64];
         let mut c = [0xffu8; 64];
@@ -164,39 +152,45 @@ fn joined_three_deep(rt: HostRuntime) -> Result<(), Fail> {
         let mut low = [0xffffu16; 17];
         assert!(rt; one <= 64 && two <= 64);
         assert!(rt; three <= 64 && words <= 16);
-        let pair = Paired::new(&mut high[0..words], &mut low);
-        let inner = Joined::new(Packed::new(&mut b[0..two]), Packed::new(&mut c[0..three]));
-        let middle = Interleaved::new(inner, pair);
-        let mut memory = Joined::new(Packed::new(&mut a[0..one]), middle);
-        exercise(&rt, &mut memory, slots)?;
+        let slots = (joined, interleaved);
+        nest(
+            &mut a[0..one],
+            &mut b[0..two],
+            &mut c[0..three],
+            &mut high[0..words],
+            &mut low,
+            slots,
+        );
     }
-    Ok(())
 }
 
 #[test]
-fn interleaved_three_deep(rt: HostRuntime) -> Result<(), Fail> {
-    for (one, two, three, words, _, slots) in NESTED {
-        let mut a = [0xffu8; 64];
-        let mut b = [0xffu8; 64];
-        let mut c = [0xffu8; 64];
-        let mut high = [0xffff_ffffu32; 16];
-        let mut low = [0xffffu16; 17];
-        assert!(rt; one <= 64 && two <= 64);
-        assert!(rt; three <= 64 && words <= 16);
-        let pair = Paired::new(&mut high[0..words], &mut low);
-        let inner = Interleaved::new(Packed::new(&mut b[0..two]), Packed::new(&mut c[0..three]));
-        let middle = Joined::new(inner, Packed::new(&mut a[0..one]));
-        let mut memory = Interleaved::new(pair, middle);
-        exercise(&rt, &mut memory, slots)?;
-    }
-    Ok(())
+fn joined_three_deep(rt: HostRuntime) {
+    lend_all(&rt, |a, b, c, high, low, (slots, _)| {
+        let inner = Joined::new(Packed::new(b), Packed::new(c));
+        let middle = Interleaved::new(inner, Paired::new(high, low));
+        exercise(&rt, &mut Joined::new(Packed::new(a), middle), slots);
+    });
 }
 
 #[test]
-fn most_significant_byte_first(rt: HostRuntime) -> Result<(), Fail> {
+fn interleaved_three_deep(rt: HostRuntime) {
+    lend_all(&rt, |a, b, c, high, low, (_, slots)| {
+        let inner = Interleaved::new(Packed::new(b), Packed::new(c));
+        let middle = Joined::new(inner, Packed::new(a));
+        exercise(
+            &rt,
+            &mut Interleaved::new(Paired::new(high, low), middle),
+            slots,
+        );
+    });
+}
+
+#[test]
+fn most_significant_byte_first(rt: HostRuntime) {
     let mut chip = [0xffu8; 14];
     let mut memory = Packed::new(&mut chip);
-    check_written(&mut memory, 1, 0x0102_0304_0506)?;
+    check_written(&rt, &mut memory, 1, 0x0102_0304_0506);
     let handed_back = memory.into_chip();
     assert_eq!(rt; handed_back.len(), 14);
     assert_eq!(rt;
@@ -205,30 +199,28 @@ fn most_significant_byte_first(rt: HostRuntime) -> Result<(), Fail> {
             0xff, 0xff, 0xff, 0xff, 0xff, 0xff, 1, 2, 3, 4, 5, 6, 0xff, 0xff,
         ]
     );
-    Ok(())
 }
 
 #[test]
-fn upper_half_in_the_high_chip(rt: HostRuntime) -> Result<(), Fail> {
+fn upper_half_in_the_high_chip(rt: HostRuntime) {
     let mut high = [0xffff_ffffu32; 2];
     let mut low = [0xffffu16; 3];
     let mut memory = Paired::new(&mut high, &mut low);
-    check_written(&mut memory, 1, 0x0102_0304_0506)?;
+    check_written(&rt, &mut memory, 1, 0x0102_0304_0506);
     assert_eq!(rt; high, [0xffff_ffff, 0x0102_0304]);
     assert_eq!(rt; low, [0xffff, 0x0506, 0xffff]);
-    Ok(())
 }
 
 #[test]
-fn even_slots_from_the_first(rt: HostRuntime) -> Result<(), Fail> {
+fn even_slots_from_the_first(rt: HostRuntime) {
     let mut even = [0xffu8; 18];
     let mut odd = [0xffu8; 13];
     let mut memory = Interleaved::new(Packed::new(&mut even), Packed::new(&mut odd));
-    check_written(&mut memory, 0, 0x0101_0101_0101)?;
-    check_written(&mut memory, 1, 0x0202_0202_0202)?;
-    check_written(&mut memory, 2, 0x0303_0303_0303)?;
-    check_written(&mut memory, 3, 0x0404_0404_0404)?;
-    check_no_write(&rt, &mut memory, 4, 0, 12)?;
+    check_written(&rt, &mut memory, 0, 0x0101_0101_0101);
+    check_written(&rt, &mut memory, 1, 0x0202_0202_0202);
+    check_written(&rt, &mut memory, 2, 0x0303_0303_0303);
+    check_written(&rt, &mut memory, 3, 0x0404_0404_0404);
+    check_no_write(&rt, &mut memory, 4, 0, 12);
     assert_eq!(rt;
         even,
         [
@@ -236,54 +228,44 @@ fn even_slots_from_the_first(rt: HostRuntime) -> Result<(), Fail> {
         ]
     );
     assert_eq!(rt; odd, [2, 2, 2, 2, 2, 2, 4, 4, 4, 4, 4, 4, 0xff]);
-    Ok(())
 }
 
 #[test]
-fn first_slots_then_second(rt: HostRuntime) -> Result<(), Fail> {
+fn first_slots_then_second(rt: HostRuntime) {
     let mut first = [0xffu8; 7];
     let mut second = [0xffu8; 8];
     let mut memory = Joined::new(Packed::new(&mut first), Packed::new(&mut second));
-    check_written(&mut memory, 0, 0x0101_0101_0101)?;
-    check_written(&mut memory, 1, 0x0202_0202_0202)?;
+    check_written(&rt, &mut memory, 0, 0x0101_0101_0101);
+    check_written(&rt, &mut memory, 1, 0x0202_0202_0202);
     assert_eq!(rt; first, [1, 1, 1, 1, 1, 1, 0xff]);
     assert_eq!(rt; second, [2, 2, 2, 2, 2, 2, 0xff, 0xff]);
-    Ok(())
 }
 
-fn erased_high(heap: Global, count: usize) -> Result<Vec<u32>, AllocError> {
-    vec![in heap; 0xffff_ffffu32; count]
+fn erased<T: Copy>(heap: Global, word: T, count: usize) -> Result<Vec<T>, AllocError> {
+    vec![in heap; word; count]
 }
 
-fn erased_low(heap: Global, count: usize) -> Result<Vec<u16>, AllocError> {
-    vec![in heap; 0xffffu16; count]
-}
-
-fn check_cut(
-    rt: &impl Abort,
-    high: &mut [u32],
-    low: &mut [u16],
-    chip: &mut [u8],
-) -> Result<(), Fail> {
+fn check_cut(rt: &impl Abort, high: &mut [u32], low: &mut [u16], chip: &mut [u8]) {
     let mut memory = Joined::new(Packed::new(chip), Paired::new(high, low));
     assert_eq!(rt; memory.slots(), 1_048_575);
-    check_written(&mut memory, 1_048_574, 5)?;
-    check_holds(rt, &memory, 1_048_574, 5)?;
-    check_no_write(rt, &mut memory, 1_048_575, 5, 12)?;
-    check_no_read(rt, &memory, 1_048_575)?;
+    check_written(rt, &mut memory, 1_048_574, 5);
+    check_holds(rt, &memory, 1_048_574, 5);
+    check_no_write(rt, &mut memory, 1_048_575, 5, 12);
+    check_no_read(rt, &memory, 1_048_575);
     let (packed, pair) = memory.into_parts();
     assert_eq!(rt; packed.slots(), 3);
     assert_eq!(rt; pair.slots(), 1_048_575);
-    check_holds(rt, &pair, 1_048_571, 5)?;
-    check_holds(rt, &pair, 1_048_572, WIDEST)?;
-    check_no_read(rt, &pair, 1_048_575)
+    check_holds(rt, &pair, 1_048_571, 5);
+    check_holds(rt, &pair, 1_048_572, WIDEST);
+    check_no_read(rt, &pair, 1_048_575);
 }
 
 // Chips of more slots than a memory has are used up to there.
 #[test]
-fn cut_at_the_most_slots(rt: HostRuntime) -> Result<(), Fail> {
-    let mut high = erased_high(rt.alloc(), 1_048_577)?;
-    let mut low = erased_low(rt.alloc(), 1_048_580)?;
+fn cut_at_the_most_slots(rt: HostRuntime) -> Result<(), AllocError> {
+    let mut high = erased(rt.alloc(), 0xffff_ffffu32, 1_048_577)?;
+    let mut low = erased(rt.alloc(), 0xffffu16, 1_048_580)?;
     let mut chip = [0xffu8; 20];
-    check_cut(&rt, &mut high, &mut low, &mut chip)
+    check_cut(&rt, &mut high, &mut low, &mut chip);
+    Ok(())
 }
