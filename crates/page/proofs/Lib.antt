@@ -1,4 +1,2 @@
 pub mod Trying
-pub mod Filling
-pub mod Finding
 pub mod PutIn

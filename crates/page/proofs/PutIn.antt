@@ -17,7 +17,7 @@ use Rattle.shore.specs.Making.{Made, encryptions}
 use Rattle.shore.proofs.Making.{proper, made_head, made_record, made_words, made_is_image}
 use Rattle.page.specs.Showing.{coding_of, opened, or_zero, past_refusal, shown_refusal, page_refusal, word_at, shown_words, unless_refused, page_words}
 use Rattle.page.specs.Laws.{ShowsDecryptions, RefusedOnlyPastEnd, ShowsWhatWasPutIn}
-use Rattle.page.proofs.Trying.{none_foul, all_open}
+use Rattle.life.proofs.Foul.{none_foul, all_open}
 
 pub shows_decryptions : (c : KeyedCipher) (image : List ℕ) (first : ℕ) (words before : List ℕ) → length words ≡ length before
     → words ≡ page_words c image first (length before) → ShowsDecryptions c image first words
@@ -31,7 +31,8 @@ shows_decryptions c image first words before long e accepted j l =
     e ∙ ap (page_words c image first) (sym long) ∙ ap (λ (o : Option Refusal). unless_refused o n (shown_words c image h first n)) accepted in
     let word : get_or words j 0 ≡ or_zero (opened c image h (first + j)) =
     ap (λ (ws : List ℕ). get_or ws j 0) shown ∙ get_or-map-range_with_len (word_at c image h first) 0 n j j 0 l (omega arith) in
-    all_open (opened c image h) first n j clean l ∙ ap Some (sym word)
+    let open_at = all_open (opened c image h) first n (first + j) clean (omega arith) (omega arith) in
+    open_at.1 ∙ ap Some (sym (word ∙ ap or_zero open_at.1))
 
 module _ (c : KeyedCipher) (fits : fits_mode c.mode c.tag ≡ true) (lawful : Lawful c.rule c.mode c.tag) (keyed : c.key < 2 ^ 128)
     (image : List ℕ) (small : (k : ℕ) → get_or image k 0 < 256) where
@@ -77,7 +78,7 @@ module _ (c : KeyedCipher) (fits : fits_mode c.mode c.tag ≡ true) (lawful : La
       foul = foul_from (opened c image (head_in image)) first n
 
       clean : first + n ≤ length is → foul ≡ None
-      clean l = none_foul (opened c image (head_in image)) (λ k. get_or is k 0) first n (λ j u. opens (first + j) (omega arith))
+      clean l = none_foul (opened c image (head_in image)) (λ k. get_or is k 0) first n (λ j low high. opens j (omega arith))
 
       -- only the end is left to try
       past_or_foul : or_else (past_refusal (length is) first n) foul ≡ past_refusal (length is) first n

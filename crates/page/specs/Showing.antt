@@ -1,5 +1,5 @@
 -- When a page is refused, and what it shows.
-use Rattle.std.specs.Prelude.{◌≡◌, ℕ, ◌+◌, cond, List, [], ◌∷◌, map, length, replicate, Some, None, Option, ◌==◌, nat_lt, slice_index}
+use Rattle.std.specs.Prelude.{◌≡◌, ℕ, ◌+◌, cond, List, map, length, replicate, position, Some, None, Option, ◌==◌, nat_lt, slice_index}
 use Rattle.std.specs.List.{range_with_len}
 use Rattle.refusal.specs.declared.Refusal.{Refusal}
 use Rattle.refusal.specs.declared.Refusal.TheVariants.{PastEnd}
@@ -58,10 +58,6 @@ Zero words = words ≡ replicate (length words) 0
 abbrev pub word_or_zero : List ℕ → ℕ → ℕ
 word_or_zero words j = cond (nat_lt j (length words)) (slice_index words j) 0
 
--- ---- the place of the first word that is w, the first of the words having place k
-abbrev pub place_from : ℕ → ℕ → List ℕ → Option ℕ
-place_from w k [] = None
-place_from w k (x ∷ xs) = cond (x == w) (Some k) (place_from w (k + 1) xs)
-
+-- the place of the first word that is w
 abbrev pub place_of : ℕ → List ℕ → Option ℕ
-place_of w words = place_from w 0 words
+place_of w words = position (λ x. x == w) words

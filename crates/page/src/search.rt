@@ -1,5 +1,6 @@
 // Looking for an instruction in an image, with a page that is gone afterwards.
-ghost use Rattle.std.specs.Prelude.{◌≡◌, length, Some, None, MatchResult};
+ghost use Rattle.std.specs.Prelude.{◌≡◌, length, IfOk, MatchResult};
+ghost use Rattle.std.specs.Result.{result_err};
 ghost use Rattle.shore.specs.Drafting.{keyed_by};
 ghost use Rattle.page.specs.Showing.{page_refusal, page_words, Zero, place_of};
 
@@ -17,15 +18,11 @@ pub fn find_instruction<C: WordCipher>(
     instruction: u32,
     buffer: &mut [u32],
 ) -> Result<Option<usize>, Refusal>
-    ensures answer { MatchResult result (λ place. (page_refusal (keyed_by C.WordCipher cipher.now) image.now first (length buffer.old) ≡ None) × (place ≡ place_of instruction (page_words (keyed_by C.WordCipher cipher.now) image.now first (length buffer.old)))) (λ e. page_refusal (keyed_by C.WordCipher cipher.now) image.now first (length buffer.old) ≡ Some e) }
+    ensures refusal { result_err result ≡ page_refusal (keyed_by C.WordCipher cipher.now) image.now first (length buffer.old) }
+    ensures place { IfOk result (λ place. place ≡ place_of instruction (page_words (keyed_by C.WordCipher cipher.now) image.now first (length buffer.old))) }
     ensures buffer { MatchResult result (λ _. Zero buffer.new) (λ _. buffer.new ≡ buffer.old) }
 {
     check_page(cipher, image, first, buffer.len())?;
     let page = Page::new(cipher, image, first, buffer);
-    for place in 0..page.len() {
-        if page.word(place) == instruction {
-            return Ok(Some(place));
-        }
-    }
-    Ok(None)
+    Ok(page.place_of(instruction))
 }

@@ -7,10 +7,9 @@ mod tests {
     use page::check::check_page;
     use page::page::Page;
     use page::search::find_instruction;
-    use refusal::{Layer, Refusal};
+    use refusal::{Layer, Note, Refusal};
     use shore::list::make_image;
     use std::process::Abort;
-    use std::test::Fail;
 
     const INSTRUCTIONS: [u32; 3] = [0x0123_4567, 0xDEAD_BEEF, 7];
 
@@ -27,35 +26,23 @@ mod tests {
         image
     }
 
-    fn accepted(image: &[u8], first: u32, length: usize) -> Result<(), Fail> {
-        match check_page(&Bare::new(0), image, first, length) {
-            Ok(()) => Ok(()),
-            Err(_) => Err(Fail::new("a page is refused")),
+    fn told(number: u32, place: u32, layer: Layer) -> Note {
+        Note {
+            number,
+            place,
+            layer,
         }
     }
 
-    fn told(rt: &impl Abort, refusal: Refusal, number: u32, place: u32, layer: Layer) {
-        let note = refusal.note();
-        assert_eq!(rt; note.number, number);
-        assert_eq!(rt; note.place, place);
-        assert_eq!(rt; note.layer, layer);
+    fn accepted(image: &[u8], first: u32, length: usize) -> Result<(), Refusal> {
+        check_page(&Bare::new(0), image, first, length)
     }
 
     // The check refuses, and a page that is made all the same shows zeros.
-    fn refused(
-        rt: &impl Abort,
-        image: &[u8],
-        first: u32,
-        length: usize,
-        number: u32,
-        place: u32,
-        layer: Layer,
-    ) -> Result<(), Fail> {
+    fn refused(rt: &impl Abort, image: &[u8], first: u32, length: usize, note: Note) {
         let cipher = Bare::new(0);
-        match check_page(&cipher, image, first, length) {
-            Ok(()) => return Err(Fail::new("a page is not refused")),
-            Err(refusal) => told(rt, refusal, number, place, layer),
-        }
+        let checked = check_page(&cipher, image, first, length);
+        assert_eq!(rt; checked.map_err(|refusal| refusal.note()), Err(note));
         let mut words = [9; 8];
         if length <= 8 {
             let page = Page::new(&cipher, image, first, &mut words[0..length]);
@@ -64,7 +51,6 @@ mod tests {
                 assert_eq!(rt; page.word(index), 0);
             }
         }
-        Ok(())
     }
 
     #[test]
@@ -89,60 +75,60 @@ mod tests {
     }
 
     #[test]
-    fn bounds(rt: HostRuntime) -> Result<(), Fail> {
+    fn bounds(rt: HostRuntime) -> Result<(), Refusal> {
         accepted(&IMAGE, 0, 3)?;
         accepted(&IMAGE, 2, 1)?;
         accepted(&IMAGE, 3, 0)?;
-        refused(&rt, &IMAGE, 0, 4, 19, 3, Layer::Image)?;
-        refused(&rt, &IMAGE, 3, 1, 19, 3, Layer::Image)?;
-        refused(&rt, &IMAGE, 4, 0, 19, 3, Layer::Image)?;
-        refused(&rt, &IMAGE, 0xFFFF_FFFF, 1, 19, 3, Layer::Image)?;
-        refused(&rt, &IMAGE, 0xFFFF_FFFF, 4, 19, 3, Layer::Image)?;
-        refused(&rt, &IMAGE, 1, usize::MAX, 19, 3, Layer::Image)
+        refused(&rt, &IMAGE, 0, 4, told(19, 3, Layer::Image));
+        refused(&rt, &IMAGE, 3, 1, told(19, 3, Layer::Image));
+        refused(&rt, &IMAGE, 4, 0, told(19, 3, Layer::Image));
+        refused(&rt, &IMAGE, 0xFFFF_FFFF, 1, told(19, 3, Layer::Image));
+        refused(&rt, &IMAGE, 0xFFFF_FFFF, 4, told(19, 3, Layer::Image));
+        refused(&rt, &IMAGE, 1, usize::MAX, told(19, 3, Layer::Image));
+        Ok(())
     }
 
     #[test]
-    fn earlier_refusals(rt: HostRuntime) -> Result<(), Fail> {
-        refused(&rt, &[], 0, 1, 2, 0, Layer::Image)?;
-        refused(&rt, &IMAGE[0..23], 0, 4, 4, 24, Layer::Image)?;
+    fn earlier_refusals(rt: HostRuntime) {
+        refused(&rt, &[], 0, 1, told(2, 0, Layer::Image));
+        refused(&rt, &IMAGE[0..23], 0, 4, told(4, 24, Layer::Image));
         let mut image = foul();
         image[0] = 0x07;
-        refused(&rt, &image, 0, 3, 3, 3, Layer::Image)?;
+        refused(&rt, &image, 0, 3, told(3, 3, Layer::Image));
         // tags of 9 bits, in an image of the same length: refused before the end and the records are looked at
         image[0] = 0x09;
-        refused(&rt, &image, 0, 3, 5, 2, Layer::Cipher)?;
-        refused(&rt, &image, 0, 4, 5, 2, Layer::Cipher)
+        refused(&rt, &image, 0, 3, told(5, 2, Layer::Cipher));
+        refused(&rt, &image, 0, 4, told(5, 2, Layer::Cipher));
     }
 
     #[test]
-    fn foul_where_shown(rt: HostRuntime) -> Result<(), Fail> {
+    fn foul_where_shown(rt: HostRuntime) -> Result<(), Refusal> {
         let image = foul();
         accepted(&image, 0, 1)?;
         accepted(&image, 2, 1)?;
         accepted(&image, 1, 0)?;
-        refused(&rt, &image, 0, 2, 8, 1, Layer::Cipher)?;
-        refused(&rt, &image, 1, 1, 8, 1, Layer::Cipher)?;
-        refused(&rt, &image, 1, 3, 19, 3, Layer::Image)
+        refused(&rt, &image, 0, 2, told(8, 1, Layer::Cipher));
+        refused(&rt, &image, 1, 1, told(8, 1, Layer::Cipher));
+        refused(&rt, &image, 1, 3, told(19, 3, Layer::Image));
+        Ok(())
     }
 
     #[test]
-    fn found_and_wiped(rt: HostRuntime) -> Result<(), Fail> {
+    fn found_and_wiped(rt: HostRuntime) -> Result<(), Refusal> {
         let cipher = Bare::new(0);
         let mut buffer = [9; 2];
-        match find_instruction(&cipher, &IMAGE, 1, 0xDEAD_BEEF, &mut buffer) {
-            Ok(place) => assert_eq!(rt; place, Some(0)),
-            Err(_) => return Err(Fail::new("a search is refused")),
-        }
+        assert_eq!(rt;
+            find_instruction(&cipher, &IMAGE, 1, 0xDEAD_BEEF, &mut buffer)?,
+            Some(0)
+        );
         assert!(rt; buffer == [0, 0]);
-        match find_instruction(&cipher, &IMAGE, 1, 8, &mut buffer) {
-            Ok(place) => assert_eq!(rt; place, None),
-            Err(_) => return Err(Fail::new("a search is refused")),
-        }
+        assert_eq!(rt; find_instruction(&cipher, &IMAGE, 1, 8, &mut buffer)?, None);
         buffer = [9, 8];
-        match find_instruction(&cipher, &IMAGE, 2, 7, &mut buffer) {
-            Ok(_) => return Err(Fail::new("a search past the end is not refused")),
-            Err(refusal) => told(&rt, refusal, 19, 3, Layer::Image),
-        }
+        let past = find_instruction(&cipher, &IMAGE, 2, 7, &mut buffer);
+        assert_eq!(rt;
+            past.map_err(|refusal| refusal.note()),
+            Err(told(19, 3, Layer::Image))
+        );
         assert!(rt; buffer == [9, 8]);
         Ok(())
     }
