@@ -1,7 +1,7 @@
 -- The bits of a number determine it, and any bits are a number's.
-use Rattle.std.proofs.Common.{◌≡◌, ℕ, zero, suc, ◌+◌, ◌-◌, ◌*◌, ◌/◌, ◌%◌, ◌^◌, ◌<◌, ◌≤◌, Bool, true, false, eqb, sym, refl, ap, ◌∙◌, subst, ap₂, inl, inr, mod-lt, mod-eq_of_lt, mul_assoc, add_comm, pow-suc, add-one, arith, lit<, pow_pos, pow_mono, pow-add, shl_exact}
+use Rattle.std.proofs.Common.{◌≡◌, ℕ, zero, suc, ◌+◌, ◌-◌, ◌*◌, ◌/◌, ◌%◌, ◌^◌, ◌<◌, ◌≤◌, Bool, true, false, eqb, sym, refl, ap, ◌∙◌, ap₂, inl, inr, mod-lt, mod-eq_of_lt, mul_assoc, add_comm, pow-suc, arith, pow_pos, pow_mono, pow-add}
 use native.Mathlib.Nat.{add-mul-div_right, mul-add-mod_self_right, div-eq_of_lt, mod-one}
-use lib.Bits.{bit_and, bit_or, or_shifted_r}
+use lib.Bits.{bit_and}
 use lib.Pow.{mod-pow-add, high}
 use Rattle.std.proofs.lemmas.Nat.{shr-shr, one_shl, and_mask}
 use Rattle.std.proofs.lemmas.Nat.Bits.{bit_at_above, bit_at-lt, same_from_bits}
@@ -107,20 +107,6 @@ masked x k p l e = ap (λ (z : ℕ). bit_and x (z - 1)) (e ∙ one_shl k 128 l) 
 
 pub low_all_128 : (x k : ℕ) → x < 2 ^ 128 → 128 ≤ k → x % 2 ^ k ≡ x
 low_all_128 x k h l = low_all x 128 k h l
-
--- ---- a loop that sets the bits from the lowest up: r has those below n
-pub number_more : (n : ℕ) (f : ℕ → Bool) (r s : ℕ) (b : Bool) → r ≡ number n f → b ≡ f n → s ≡ r + digit b * 2 ^ n → s ≡ number (n + 1) f
-number_more n f r s b p q e = e ∙ ap₂ (λ (z : ℕ) (d : Bool). z + digit d * 2 ^ n) p q ∙ ap (λ (k : ℕ). number k f) (sym (add-one n))
-
-pub number_below : (n : ℕ) (f : ℕ → Bool) (r : ℕ) → r ≡ number n f → r < 2 ^ n
-number_below n f r e = subst (λ (z : ℕ). z < 2 ^ n) (sym e) (number_lt n f)
-
-pub number_all : (i n : ℕ) (f : ℕ → Bool) (r : ℕ) → i ≡ n → r ≡ number i f → (r ≡ number n f) × (r < 2 ^ n)
-number_all i n f r e p = let q : r ≡ number n f = p ∙ ap (λ (k : ℕ). number k f) e in (q, number_below n f r q)
-
-pub set_top : (r i w : ℕ) → i < w → r < 2 ^ i → bit_or r ((1 * 2 ^ i) % 2 ^ w) ≡ r + 1 * 2 ^ i
-set_top r i w l h =
-    ap (bit_or r) (shl_exact 1 i w (lit< tt) (omega arith)) ∙ or_shifted_r 1 i r h ∙ add_comm (1 * 2 ^ i) r
 
 -- two functions that undo each other on n bits: the inverse's value is the only argument with that value
 pub only_one : (n : ℕ) (f f⁻¹ : ℕ → ℕ) → ((x : ℕ) → f⁻¹ (f x) ≡ x % 2 ^ n) → ((y : ℕ) → f (f⁻¹ y) ≡ y % 2 ^ n)

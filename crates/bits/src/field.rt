@@ -1,5 +1,5 @@
 // Fields of bits in bytes, most significant bit first: the bytes that a field touches are taken as one number.
-ghost use Rattle.std.specs.Prelude.{◌≡◌, ℕ, ◌+◌, ◌-◌, ◌*◌, ◌/◌, ◌%◌, ◌^◌, ◌<◌, ◌≤◌, ◌⊎◌, min, slice_index};
+ghost use Rattle.std.specs.Prelude.{◌≡◌, ℕ, ◌+◌, ◌-◌, ◌*◌, ◌^◌, ◌<◌, ◌≤◌, ◌⊎◌, min, slice_index};
 ghost use Rattle.std.specs.Int.{bit_at};
 ghost use Rattle.bits.specs.Field.{field, Written, ReadsBack, KeepsOthers, BitsAreAll};
 

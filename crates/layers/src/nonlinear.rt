@@ -1,5 +1,5 @@
 // ChiChi and its inverse.
-ghost use Rattle.std.specs.Prelude.{◌≡◌, ℕ, ◌+◌, ◌-◌, ◌*◌, ◌%◌, ◌^◌, ◌<◌, ◌≤◌, ◌⊎◌};
+ghost use Rattle.std.specs.Prelude.{◌≡◌, ℕ, ◌+◌, ◌-◌, ◌%◌, ◌^◌, ◌<◌, ◌≤◌, ◌⊎◌};
 ghost use Rattle.bits.specs.Number.{bit, number};
 ghost use Rattle.layers.specs.ChiChi.{gate as gate_of, chi_bit, chichi};
 ghost use Rattle.layers.specs.Inverse.{step, walk, crossing, around, fixed_pair, state_bit, chichi⁻¹, Undoes, Undone};
