@@ -1,11 +1,10 @@
 -- Two linear maps undo each other where their lists of offsets, multiplied out, cancel to a lone 0.
-use Rattle.std.proofs.Common.{◌≡◌, ℕ, ◌+◌, ◌*◌, ◌/◌, ◌%◌, ◌^◌, ◌<◌, ◌≤◌, Bool, true, false, not, eqb, List, [], ◌∷◌, ◌++◌, length, get_or, drop, sym, refl, ap, ◌∙◌, ap₂, add-zero, add_assoc, mod-lt, mod-eq_of_lt, mul_assoc, mul_comm, add-mul, one-mul, div-add-mod', mul-add, add-one, arith, lit<, drop-cons}
+use Rattle.std.proofs.Common.{◌≡◌, ℕ, ◌+◌, ◌*◌, ◌/◌, ◌%◌, ◌^◌, ◌<◌, Bool, true, false, not, eqb, List, [], ◌∷◌, ◌++◌, sym, refl, ap, ◌∙◌, ap₂, add-zero, add_assoc, mod-lt, mod-eq_of_lt, mul_assoc, mul_comm, add-mul, one-mul, div-add-mod', mul-add, arith, lit<}
 use mathlib.Core.Bool.{beq}
 use native.Mathlib.Nat.{add-mod-mod, mul-add-mod_self_right}
-use Rattle.std.proofs.lemmas.List.{drop_all}
 use Rattle.std.proofs.lemmas.Bool.{eqb-true}
 use Rattle.bits.specs.Number.{bit, ◌⊕◌}
-use Rattle.bits.proofs.Numbers.{number_lt, number_ext, number_bits, bit-number}
+use Rattle.bits.proofs.Numbers.{number_lt, number_ext, number_bits, bit-number, only_one}
 use Rattle.linear.specs.Linear.{xor_all, linear_bit, linear, map_size, map_of, forward, inverse_of, MapUndone, MapUndoes}
 use Rattle.linear.specs.declared.DataMap.{DataMap}
 use Rattle.linear.specs.declared.DataMap.TheVariants.{D32, D40}
@@ -52,7 +51,7 @@ module _ (f : ℕ → Bool) where
   cancelled [] = refl
   cancelled (b ∷ bs) = toggled b (cancel bs) ∙ ap (λ (z : Bool). f b ⊕ z) (cancelled bs)
 
-  joined : (bs cs : List ℕ) → xor_all f (bs ++ cs) ≡ xor_all f bs ⊕ xor_all f cs
+  pub joined : (bs cs : List ℕ) → xor_all f (bs ++ cs) ≡ xor_all f bs ⊕ xor_all f cs
   joined [] cs = refl
   joined (b ∷ bs) cs = ap (λ (z : Bool). f b ⊕ z) (joined bs cs) ∙ sym (xor_assoc (f b) (xor_all f bs) (xor_all f cs))
 
@@ -122,7 +121,7 @@ pub map_undone : MapUndone
 map_undone D32 = undo 32 3 11 1 refl _ _ refl (lit< tt)
 map_undone D40 = undo 40 33 17 14 refl _ _ refl (lit< tt)
 
-linear_lt : (n a : ℕ) (bs : List ℕ) (x : ℕ) → linear n a bs x < 2 ^ n
+pub linear_lt : (n a : ℕ) (bs : List ℕ) (x : ℕ) → linear n a bs x < 2 ^ n
 unfolding linear
 linear_lt n a bs x = number_lt n (linear_bit n a bs (bit x))
 
@@ -137,15 +136,20 @@ pub inverse_lt : (d : DataMap) (y : ℕ) → inverse_of d y < 2 ^ map_size (forw
 inverse_lt D32 = linear_lt 32 _ _
 inverse_lt D40 = linear_lt 40 _ _
 
--- ---- the loop of a bit
-xor_is : (r b c : Bool) → not (beq r b) ⊕ c ≡ r ⊕ (b ⊕ c)
-xor_is r b c = grind arith
+module _ (d : DataMap) (y r : ℕ) (is : r ≡ inverse_of d y) where
+  pub is_argument : map_of (forward d) r ≡ y % 2 ^ map_size (forward d)
+  is_argument = ap (map_of (forward d)) is ∙ map_undone d y
 
-pub bit_more : (f : ℕ → Bool) (bs : List ℕ) (k : ℕ) (r b z : Bool) → k < length bs → b ≡ f (get_or bs k 0)
-    → r ⊕ xor_all f (drop k bs) ≡ z → not (beq r b) ⊕ xor_all f (drop (k + 1) bs) ≡ z
-bit_more f bs k r b z l e inv =
-    xor_is r b (xor_all f (drop (k + 1) bs)) ∙ ap (λ (d : Bool). r ⊕ (d ⊕ xor_all f (drop (k + 1) bs))) e
-    ∙ ap (λ (cs : List ℕ). r ⊕ xor_all f cs) (sym (drop-cons bs k 0 l ∙ ap (λ (j : ℕ). get_or bs k 0 ∷ drop j bs) (sym (add-one k)))) ∙ inv
+  pub no_other : (x : ℕ) → x < 2 ^ map_size (forward d) → map_of (forward d) x ≡ y % 2 ^ map_size (forward d) → x ≡ r
+  no_other x small e =
+      only_one (map_size (forward d)) (map_of (forward d)) (inverse_of d) (map_undoes d) (map_undone d) (inverse_lt d) x y small e ∙ sym is
 
-pub bit_all : (f : ℕ → Bool) (bs : List ℕ) (k : ℕ) (r z : Bool) → length bs ≤ k → r ⊕ xor_all f (drop k bs) ≡ z → r ≡ z
-bit_all f bs k r z l inv = sym (xor_false r) ∙ ap (λ (cs : List ℕ). r ⊕ xor_all f cs) (sym (drop_all k bs l)) ∙ inv
+pub ruleset inversion = (is_argument, no_other, map_undoes, map_undone)
+
+-- one offset more, of a fold
+pub bit_more : (f : ℕ → Bool) (bs : List ℕ) (b : ℕ) (r s : Bool) → r ≡ xor_all f bs → s ≡ not (beq r (f b)) → s ≡ xor_all f (bs ++ b ∷ [])
+bit_more f bs b r s is next =
+    next ∙ xor_is r (f b) ∙ ap₂ (λ (p q : Bool). p ⊕ q) is (sym (xor_false (f b))) ∙ sym (joined f bs (b ∷ []))
+  where
+    xor_is : (r b : Bool) → not (beq r b) ≡ r ⊕ b
+    xor_is r b = grind arith

@@ -1,11 +1,11 @@
 // The linear maps, and the inverses of the two that encryption undoes.
 #![tactic(auto)]
 
-ghost use Rattle.std.specs.Prelude.{◌≡◌, ℕ, ◌+◌, ◌*◌, ◌%◌, ◌^◌, ◌<◌, ◌≤◌, length, slice_index};
-ghost use Rattle.bits.specs.Number.{bit, digit};
+ghost use Rattle.std.specs.Prelude.{◌≡◌, ℕ, ◌%◌, ◌^◌, ◌<◌, ◌≤◌};
+ghost use Rattle.bits.specs.Number.{bit};
 ghost use Rattle.linear.specs.Linear.{place, linear_bit, linear as linear_of, map_size, map_of, forward, inverse_of, MapUndone, MapUndoes};
 
-use bits::bit_at;
+use bits::{bit_at, with_bit};
 
 /// The linear maps of ChiLow, by what they are used on and its width.
 #[derive(Clone, Copy, PartialEq, Eq, Debug)]
@@ -24,30 +24,16 @@ pub enum DataMap {
     D40,
 }
 
-// The offsets of the inverses.
-const INVERSE_32: [u32; 17] = [
-    3, 5, 6, 7, 8, 10, 13, 14, 15, 17, 18, 22, 24, 25, 28, 30, 31,
-];
-
-const INVERSE_40: [u32; 23] = [
-    2, 4, 6, 7, 8, 10, 11, 13, 14, 17, 18, 19, 21, 22, 23, 29, 31, 32, 33, 36, 37, 38, 39,
-];
-
 /// That map of a state; bits above its width are not read.
 pub fn apply(map: LinearMap, x: u128) -> u128
     ensures is { result ≡ map_of map x }
     ensures fits { result < 2 ^ map_size map }
 {
-    match map {
-        LinearMap::Data32 => circulant(x, 32, 11, &[5, 9, 12]),
-        LinearMap::Tag32 => circulant(x, 32, 11, &[1, 26, 30]),
-        LinearMap::Data40 => circulant(x, 40, 17, &[1, 9, 30]),
-        LinearMap::Tweak64 => circulant(x, 64, 3, &[1, 26, 50]),
-        LinearMap::Key128 => circulant(x, 128, 17, &[7, 11, 14]),
-    }
+    map.circulant().apply(x)
 }
 
 /// The one state whose map is `y`; bits of `y` above its width are not read.
+#[tactic(auto, using(crate::proofs::Linears::inversion))]
 pub fn apply_inverse(map: DataMap, y: u128) -> u128
     ensures is { result ≡ inverse_of map y }
     ensures fits { result < 2 ^ map_size (forward map) }
@@ -56,53 +42,88 @@ pub fn apply_inverse(map: DataMap, y: u128) -> u128
     ensures undone { MapUndone }
     ensures undoes { MapUndoes }
 {
-    unmapped(map, y)
+    map.inverse().apply(y)
 }
 
-fn unmapped(map: DataMap, y: u128) -> u128
-    ensures is { result ≡ inverse_of map y }
-    ensures fits { result < 2 ^ map_size (forward map) }
-{
-    match map {
-        DataMap::D32 => circulant(y, 32, 3, &INVERSE_32),
-        DataMap::D40 => circulant(y, 40, 33, &INVERSE_40),
+// The offsets of the inverses.
+const INVERSE_32: [u8; 17] = [
+    3, 5, 6, 7, 8, 10, 13, 14, 15, 17, 18, 22, 24, 25, 28, 30, 31,
+];
+
+const INVERSE_40: [u8; 23] = [
+    2, 4, 6, 7, 8, 10, 11, 13, 14, 17, 18, 19, 21, 22, 23, 29, 31, 32, 33, 36, 37, 38, 39,
+];
+
+impl LinearMap {
+    fn circulant(self) -> Circulant
+        ensures size { result.size ≡ map_size self }
+        ensures is { linear_of result.size result.factor result.offsets.now ≡ map_of self }
+    {
+        match self {
+            LinearMap::Data32 => Circulant::new(32, 11, &[5, 9, 12]),
+            LinearMap::Tag32 => Circulant::new(32, 11, &[1, 26, 30]),
+            LinearMap::Data40 => Circulant::new(40, 17, &[1, 9, 30]),
+            LinearMap::Tweak64 => Circulant::new(64, 3, &[1, 26, 50]),
+            LinearMap::Key128 => Circulant::new(128, 17, &[7, 11, 14]),
+        }
     }
 }
 
-fn circulant(x: u128, n: u32, a: u32, offsets: &[u32]) -> u128
-    requires { (n ≤ 128) × ((a < 128) × (((k : ℕ) → k < length offsets.now → slice_index offsets.now k < 128))) }
-    ensures is { result ≡ linear_of n a offsets.now x }
-    ensures fits { result < 2 ^ n }
-{
-    let mut r: u128 = 0;
-    for i in 0..n {
-        r = with_bit(r, i, linear_bit(x, n, a, offsets, i));
+impl DataMap {
+    fn inverse(self) -> Circulant
+        ensures size { result.size ≡ map_size (forward self) }
+        ensures is { linear_of result.size result.factor result.offsets.now ≡ inverse_of self }
+    {
+        match self {
+            DataMap::D32 => Circulant::new(32, 3, &INVERSE_32),
+            DataMap::D40 => Circulant::new(40, 33, &INVERSE_40),
+        }
     }
-    r
 }
 
-fn linear_bit(x: u128, n: u32, a: u32, offsets: &[u32], i: u32) -> bool
-    requires { (i < n) × ((n ≤ 128) × ((a < 128) × (((k : ℕ) → k < length offsets.now → slice_index offsets.now k < 128)))) }
-    ensures { result ≡ linear_bit n a offsets.now (bit x) i }
-{
-    let mut r = false;
-    for b in offsets {
-        r = r ^ bit_at(x, place_of(n, a, i, *b));
+// Bit i of its result is the exclusive or of bits (factor * i + offset) mod size, over the offsets.
+#[derive(Clone, Copy)]
+struct Circulant {
+    size: u8,
+    factor: u8,
+    offsets: &'static [u8],
+    ghost above: { 0 < size },
+    ghost most: { size ≤ 128 },
+}
+
+impl Circulant {
+    fn new(size: u8, factor: u8, offsets: &'static [u8]) -> Circulant
+        requires above { 0 < size }
+        requires most { size ≤ 128 }
+        ensures size { result.size ≡ size }
+        ensures factor { result.factor ≡ factor }
+        ensures offsets { result.offsets.now ≡ offsets.now }
+    {
+        Circulant {
+            size,
+            factor,
+            offsets,
+        }
     }
-    r
-}
 
-fn place_of(n: u32, a: u32, i: u32, b: u32) -> u32
-    requires { (i < n) × ((n ≤ 128) × ((a < 128) × (b < 128))) }
-    ensures { result ≡ place n a i b }
-{
-    (a * i + b) % n
-}
+    fn apply(self, x: u128) -> u128
+        ensures is { result ≡ linear_of self.size self.factor self.offsets.now x }
+        ensures fits { result < 2 ^ self.size }
+    {
+        (0..self.size).fold(0, |r, i| with_bit(r, u32::from(i), self.bit(x, i)))
+    }
 
-// `r`, of `i` bits, with `b` as bit `i`.
-fn with_bit(r: u128, i: u32, b: bool) -> u128
-    requires { (i < 128) × (r < 2 ^ i) }
-    ensures { result ≡ r + digit b * 2 ^ i }
-{
-    if b { r | (1 << i) } else { r }
+    fn bit(self, x: u128, i: u8) -> bool
+        ensures { result ≡ linear_bit self.size self.factor self.offsets.now (bit x) i }
+    {
+        self.offsets
+            .iter()
+            .fold(false, |r, offset| r ^ bit_at(x, self.place(i, *offset)))
+    }
+
+    fn place(self, i: u8, offset: u8) -> u32
+        ensures { result ≡ place self.size self.factor i offset }
+    {
+        (u32::from(self.factor) * u32::from(i) + u32::from(offset)) % u32::from(self.size)
+    }
 }
