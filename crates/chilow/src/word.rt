@@ -2,6 +2,7 @@
 ghost use Rattle.std.specs.Prelude.{◌≡◌, ◌+◌, ◌*◌, ◌/◌, ◌%◌, ◌^◌, ◌<◌, ◌≤◌, ◌==◌, true, Some, None, if◌then◌else◌};
 ghost use Rattle.bits.specs.Number.{part};
 ghost use Rattle.cipher.specs.Word.{fits_mode};
+ghost use Rattle.cipher.specs.declared.Mode.TheVariants.{Tagged, Block};
 ghost use Rattle.paths.specs.declared.path.Path.TheVariants.{Data32, Tag32, Data40};
 ghost use Rattle.paths.specs.Encryption.{width, source};
 ghost use Rattle.paths.specs.Data.{outcome};
@@ -49,7 +50,7 @@ impl Tweaked {
     }
 
     fn open_tagged(&self, stored: u64) -> Option<u32>
-        ensures { result ≡ (if part (outcome Tag32 self.now.schedules (stored / 2 ^ self.now.tag_bits)) 0 self.now.tag_bits == stored % 2 ^ self.now.tag_bits then Some (outcome Data32 self.now.schedules (stored / 2 ^ self.now.tag_bits)) else None) }
+        ensures { stored < 2 ^ (32 + self.now.tag_bits) → result ≡ opened_by (λ p x. outcome p self.now.schedules x) Tagged self.now.tag_bits stored }
     {
         let ciphertext = stored >> self.tag_bits;
         if self.tag_of(ciphertext) == stored % (1 << self.tag_bits) {
@@ -60,7 +61,7 @@ impl Tweaked {
     }
 
     fn open_block(&self, stored: u64) -> Option<u32>
-        ensures { result ≡ (if part (outcome Data40 self.now.schedules stored) 32 8 == 0 then Some (part (outcome Data40 self.now.schedules stored) 0 32) else None) }
+        ensures { stored < 2 ^ (32 + self.now.tag_bits) → result ≡ opened_by (λ p x. outcome p self.now.schedules x) Block self.now.tag_bits stored }
     {
         let block = self.schedules.decrypt(Path::Data40, stored) as u128;
         if part_of(block, 32, 8) == 0 {

@@ -1,6 +1,7 @@
 -- The schedules made ahead, and the data path over them, are the algorithm's own states.
-use Rattle.std.proofs.Common.{◌≡◌, ℕ, zero, suc, ◌^◌, ◌<◌, ◌≤◌, Bool, true, false, cond, get_or, sym, refl, ap, ◌∙◌, ap₂, arith}
+use Rattle.std.proofs.Common.{◌≡◌, ℕ, zero, suc, ◌^◌, ◌<◌, ◌≤◌, Bool, true, false, cond, List, length, get_or, sym, refl, ap, ◌∙◌, ap₂, arith}
 use lib.Bits.{xor_lt}
+use Rattle.std.proofs.lemmas.List.FromFn.{fill_by_all}
 use Rattle.std.proofs.lemmas.Bool.{ltb-true}
 use Rattle.bits.specs.Number.{part}
 use Rattle.bits.proofs.Numbers.{part_lt}
@@ -13,9 +14,10 @@ use Rattle.linear.proofs.Linears.{map_lt}
 use Rattle.schedule.specs.Schedule.{◌⊻◌, table, inner, key_round, key_after, round_word, key_schedule, mask, tweak_after, tweak_mask}
 use Rattle.schedule.proofs.Tables.{table_at, table_ext}
 use Rattle.paths.specs.declared.path.Path.{Path}
+use Rattle.paths.specs.declared.decrypt.State.{State}
 use Rattle.paths.specs.declared.schedules.Schedules.{Schedules}
 use Rattle.paths.specs.declared.path.Path.TheVariants.{Data32, Tag32, Data40}
-use Rattle.paths.specs.Algorithm.{State, round, last_round, after, decryption, SchedulesDecrypt}
+use Rattle.paths.specs.Algorithm.{whitened, rows, round, last_round, after, decryption, SchedulesDecrypt}
 use Rattle.paths.specs.Paths.{cipher_of, width_of, linear_of, whitening, tweak_part, chi, mixed}
 use Rattle.paths.specs.Data.{data_round, data_after, word_of, schedules, masks_of, outcome}
 
@@ -93,14 +95,31 @@ module _ (p : Path) (k t x : ℕ) where
       ∙ data_ext p _ (masks p k t x) (x ⊻ whitening p k) 8 masks_are i l ∙ sym (ap (λ (s : State). s.block) (after_is p k t x i))
 
   -- the three columns of a trace
-  pub block_rows : table 9 (data_after p (masks_of made) (x ⊻ word_of made.keys p)) ≡ table 9 (λ i. (after p k t x i).block)
+  block_rows : table 9 (data_after p (masks_of made) (x ⊻ word_of made.keys p)) ≡ table 9 (λ i. (after p k t x i).block)
   block_rows = table_ext _ _ 9 (λ i l. block_row i (omega arith))
 
-  pub tweak_rows : made.tweaks.states ≡ table 9 (λ i. (after p k t x i).tweak)
+  tweak_rows : made.tweaks.states ≡ table 9 (λ i. (after p k t x i).tweak)
   tweak_rows = table_ext _ _ 9 (λ i _. tweak_row i)
 
-  pub key_rows : table 9 (key_after (cipher_of p) k) ≡ table 9 (λ i. (after p k t x i).key)
+  key_rows : table 9 (key_after (cipher_of p) k) ≡ table 9 (λ i. (after p k t x i).key)
   key_rows = table_ext _ _ 9 (λ i _. sym (key_row i))
+
+  -- a row, from the three parts that the code has of it
+  pub row_of : (s : Schedules) (blocks keys : List ℕ) → s ≡ made
+      → blocks ≡ table 9 (data_after p (masks_of s) (x ⊻ word_of s.keys p)) → keys ≡ table 9 (key_after (cipher_of p) k)
+      → (i : ℕ) → i < 9 → record { block = get_or blocks i 0; tweak = get_or s.tweaks.states i 0; key = get_or keys i 0 } ≡ after p k t x i
+  row_of s blocks keys is e f i l =
+      let first : get_or blocks i 0 ≡ (after p k t x i).block =
+      ap (λ (xs : List ℕ). get_or xs i 0) (e ∙ ap (λ (s : Schedules). table 9 (data_after p (masks_of s) (x ⊻ word_of s.keys p))) is ∙ block_rows)
+      ∙ table_at _ 9 i l in
+      let second : get_or s.tweaks.states i 0 ≡ (after p k t x i).tweak =
+      ap (λ (xs : List ℕ). get_or xs i 0) (ap (λ (s : Schedules). s.tweaks.states) is ∙ tweak_rows) ∙ table_at _ 9 i l in
+      let third : get_or keys i 0 ≡ (after p k t x i).key = ap (λ (xs : List ℕ). get_or xs i 0) (f ∙ key_rows) ∙ table_at _ 9 i l in
+      λ z. record { block = first z; tweak = second z; key = third z }
+
+  pub rows_from : (xs : List State) → length xs ≡ 9 → ((i : ℕ) → i < 9 → get_or xs i (whitened p k t x) ≡ after p k t x i) → xs ≡ rows p k t x
+  unfolding rows
+  rows_from xs n e = fill_by_all (after p k t x) xs 9 (whitened p k t x) n e
 
 pub schedules_decrypt : SchedulesDecrypt
 unfolding outcome decryption

@@ -1,19 +1,15 @@
 -- ChiLow decryption as published: the state, its whitening, seven rounds alike and a last one.
-use Rattle.std.specs.Prelude.{◌≡◌, ℕ, zero, suc, cond}
+use Rattle.std.specs.Prelude.{◌≡◌, ℕ, zero, suc, cond, List, map}
+use Rattle.std.specs.List.{range_with_len}
 use Rattle.bits.specs.Number.{part}
 use Rattle.linear.specs.declared.LinearMap.TheVariants.{Tweak64}
 use Rattle.layers.specs.ChiChi.{chichi}
 use Rattle.linear.specs.Linear.{map_of}
-use Rattle.schedule.specs.Schedule.{◌⊻◌, table, inner, key_round}
+use Rattle.schedule.specs.Schedule.{◌⊻◌, inner, key_round}
 use Rattle.paths.specs.declared.path.Path.{Path}
-use Rattle.paths.specs.declared.decrypt.Trace.{Trace}
+use Rattle.paths.specs.declared.decrypt.State.{State}
 use Rattle.paths.specs.Paths.{cipher_of, whitening, tweak_part, chi, mixed}
 use Rattle.paths.specs.Data.{schedules, outcome}
-
-pub record State : Type 0 where
-  pub block : ℕ
-  pub tweak : ℕ
-  pub key : ℕ
 
 abbrev pub whitened : Path → ℕ → ℕ → ℕ → State
 whitened p k t x = record { block = x ⊻ whitening p k; tweak = t ⊻ part k 0 64; key = k }
@@ -40,13 +36,9 @@ after p k t x (suc i) = cond (inner i) (round p i (after p k t x i)) (last_round
 unfoldable pub decryption : Path → ℕ → ℕ → ℕ → ℕ
 decryption p k t x = (after p k t x 8).block
 
--- the rows of a whole decryption
-abbrev pub rows : Path → ℕ → ℕ → ℕ → Trace
-rows p k t x = record {
-  block = table 9 (λ i. (after p k t x i).block);
-  tweak = table 9 (λ i. (after p k t x i).tweak);
-  key = table 9 (λ i. (after p k t x i).key);
-}
+-- the nine rows of a whole decryption
+unfoldable pub rows : Path → ℕ → ℕ → ℕ → List State
+rows p k t x = map (after p k t x) (range_with_len 0 9)
 
 -- the schedules made ahead lead to the same outcome
 abbrev pub SchedulesDecrypt : Type 0

@@ -10,13 +10,14 @@ use crate::data::data_states;
 use crate::path::Path;
 use crate::schedules::Schedules;
 use schedule::key::{key_schedule, key_states};
+use std::array;
 
-/// The states of a decryption, after the whitening and after each of the eight rounds.
+/// A state of a decryption.
 #[derive(Clone, Copy)]
-pub struct Trace {
-    pub block: [u64; 9],
-    pub tweak: [u64; 9],
-    pub key: [u128; 9],
+pub struct State {
+    pub block: u64,
+    pub tweak: u64,
+    pub key: u128,
 }
 
 impl Schedules {
@@ -37,15 +38,18 @@ impl Schedules {
     }
 }
 
-/// Every state of the decryption of `x` on a path.
-pub fn trace_of(path: Path, key: u128, tweak: u64, x: u64) -> Trace
+/// Every state of the decryption of `x` on a path: after the whitening, and after each of the eight rounds.
+pub fn trace_of(path: Path, key: u128, tweak: u64, x: u64) -> [State; 9]
     ensures { result ≡ rows path key tweak x }
 {
     let cipher = path.cipher();
     let schedules = Schedules::new(&key_schedule(cipher, key), tweak);
-    Trace {
-        block: schedules.states(path, x),
-        tweak: schedules.tweaks.states,
-        key: key_states(cipher, key),
-    }
+    let blocks = schedules.states(path, x);
+    let tweaks = schedules.tweaks.states;
+    let keys = key_states(cipher, key);
+    array::from_fn(|i| State {
+        block: blocks[i],
+        tweak: tweaks[i],
+        key: keys[i],
+    })
 }

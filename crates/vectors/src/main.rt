@@ -51,10 +51,13 @@ fn tagged_states(tweak: u64) -> [[u128; 4]; 10] {
     let tag = trace_of(Path::Tag32, KEY, tweak, CIPHERTEXT);
     let input = [CIPHERTEXT as u128, CIPHERTEXT as u128, tweak as u128, KEY];
     let mut states = [input; 10];
-    let blocks = data.block.iter().zip(&tag.block);
-    let traced = blocks.zip(data.tweak.iter().zip(&data.key));
-    for (row, ((data, tag), (tweak, key))) in states[1..].iter_mut().zip(traced) {
-        *row = [*data as u128, *tag as u128, *tweak as u128, *key];
+    for (row, (data, tag)) in states[1..].iter_mut().zip(data.iter().zip(&tag)) {
+        *row = [
+            data.block as u128,
+            tag.block as u128,
+            data.tweak as u128,
+            data.key,
+        ];
     }
     states
 }
@@ -62,9 +65,8 @@ fn tagged_states(tweak: u64) -> [[u128; 4]; 10] {
 fn block_states(tweak: u64) -> [[u128; 3]; 10] {
     let data = trace_of(Path::Data40, KEY, tweak, CIPHER_BLOCK);
     let mut states = [[CIPHER_BLOCK as u128, tweak as u128, KEY]; 10];
-    let traced = data.block.iter().zip(data.tweak.iter().zip(&data.key));
-    for (row, (data, (tweak, key))) in states[1..].iter_mut().zip(traced) {
-        *row = [*data as u128, *tweak as u128, *key];
+    for (row, state) in states[1..].iter_mut().zip(&data) {
+        *row = [state.block as u128, state.tweak as u128, state.key];
     }
     states
 }

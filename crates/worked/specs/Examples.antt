@@ -5,10 +5,10 @@ use Rattle.layers.specs.ChiChi.{chichi}
 use Rattle.linear.specs.Linear.{map_of}
 use Rattle.cipher.specs.declared.Mode.TheVariants.{Tagged}
 use Rattle.image.specs.Layout.{Head, image_length, layout}
-use Rattle.paths.specs.declared.decrypt.Trace.{Trace}
+use Rattle.paths.specs.declared.decrypt.State.{State}
 use Rattle.paths.specs.declared.path.Path.{Path}
 use Rattle.paths.specs.declared.path.Path.TheVariants.{Data32, Tag32}
-use Rattle.paths.specs.Algorithm.{State, whitened, rows}
+use Rattle.paths.specs.Algorithm.{whitened, rows}
 
 -- the published vector of ChiLow-(32+τ), whitened
 abbrev pub vector : Path → State
@@ -41,12 +41,12 @@ pub record Worked : Type 0 where
   pub image_of_one : image_length one_record ≡ 14
 
 -- what the code computes of the same inputs
-abbrev pub trace : Path → Trace
-trace p = rows p 0xFEDCBA98765432107766554433221100 0x0011223344556677 0x01234567
+abbrev pub traced : Path → State
+traced p = get_or (rows p 0xFEDCBA98765432107766554433221100 0x0011223344556677 0x01234567) 0 (vector p)
 
 abbrev pub defined : List ℕ
 defined =
-    get_or (trace Data32).block 0 0 ∷ get_or (trace Tag32).block 0 0 ∷ get_or (trace Data32).tweak 0 0
+    (traced Data32).block ∷ (traced Tag32).block ∷ (traced Data32).tweak
     ∷ chichi 16 0x77777777 ∷ chichi 16 0xFFFFFFFF ∷ chichi 32 0x7777777777777777 ∷ chichi 16 0
     ∷ map_of maps.Data32 0xF3333333 ∷ map_of maps.Tag32 0xFFFF7FFF ∷ map_of maps.Tweak64 0xF333333333333333 ∷ []
 

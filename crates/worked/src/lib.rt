@@ -31,9 +31,9 @@ fn computed() -> [u128; 10]
     let data = trace_of(Path::Data32, KEY, TWEAK, CIPHERTEXT);
     let tag = trace_of(Path::Tag32, KEY, TWEAK, CIPHERTEXT);
     [
-        data.block[0] as u128,
-        tag.block[0] as u128,
-        data.tweak[0] as u128,
+        data[0].block as u128,
+        tag[0].block as u128,
+        data[0].tweak as u128,
         chi_chi(Width::W32, 0x7777_7777),
         chi_chi(Width::W32, 0xFFFF_FFFF),
         chi_chi(Width::W64, 0x7777_7777_7777_7777),

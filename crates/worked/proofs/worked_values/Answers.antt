@@ -1,12 +1,11 @@
 use mathlib.Core.Path.{◌∙◌}
 use mathlib.Core.List.{[], ◌∷◌}
-use Rattle.schedule.specs.Schedule.{table}
-use Rattle.paths.specs.Algorithm.{after}
+use Rattle.paths.specs.Algorithm.{after, rows}
 use Rattle.worked.proofs.Values.{worked}
 use Rattle.worked.proofs.worked_values.Goals as goal
 
 pub returns : goal.returns
-unfolding table after
+unfolding rows after
 returns c = record {
   table = worked;
   values = c.computed.ensures ∙ λ z.
