@@ -11,6 +11,7 @@ use refusal::Refusal;
 #[derive(Drop)]
 pub struct Packed<'a> {
     bytes: &'a mut [u8],
+    // In a contract a byte is any number: these are below 256.
     ghost in_range: { (i : ℕ) → slice_index bytes.now i < 256 },
 }
 

@@ -8,10 +8,12 @@ use memory::bounds::{check_slot, check_write, cut};
 use refusal::Refusal;
 
 /// The memory of two lent chips.
+// Stays: two slices side by side, since they are the two chips that a caller lends.
 #[derive(Drop)]
 pub struct Paired<'a> {
     high: &'a mut [u32],
     low: &'a mut [u16],
+    // In a contract a word is any number: these have 32 and 16 bits.
     ghost high_in_range: { (i : ℕ) → slice_index high.now i < 2 ^ 32 },
     ghost low_in_range: { (i : ℕ) → slice_index low.now i < 2 ^ 16 },
 }

@@ -10,11 +10,10 @@ use memory::Memory;
 use parts::joined::Joined;
 
 /// Takes a memory of any kind, writes to it, and hands it back.
-pub fn put<M: Memory>(memory: M, slot: u32, number: u64) -> M
+pub fn put<M: Memory>(mut memory: M, slot: u32, number: u64) -> M
     ensures after { M.held result ≡ after_write (M.held memory) slot number }
     ensures kept { M.rest result ≡ M.rest memory }
 {
-    let mut memory = memory;
     let _ = memory.write(slot, number);
     memory
 }
@@ -24,9 +23,7 @@ pub fn put_packed<'a>(chip: &'a mut [u8], slot: u32, number: u64) -> &'a mut [u8
     ensures lent { result.ghost_name ≡ chip.entry.ghost_name }
     ensures bytes { result.now ≡ bytes_of (after_write (packed_slots chip.old) slot number) (left_over chip.old) }
 {
-    let memory = Packed::new(chip);
-    let memory = put(memory, slot, number);
-    memory.into_chip()
+    put(Packed::new(chip), slot, number).into_chip()
 }
 
 /// The same of the caller's own buffer, once nothing is lent any more.
@@ -48,9 +45,7 @@ pub fn put_paired<'a>(
     ensures highs { result.0.now ≡ highs_of (after_write (paired_slots high.old low.old) slot number) (surplus_high high.old low.old) }
     ensures lows { result.1.now ≡ lows_of (after_write (paired_slots high.old low.old) slot number) (surplus_low high.old low.old) }
 {
-    let memory = Paired::new(high, low);
-    let memory = put(memory, slot, number);
-    memory.into_chips()
+    put(Paired::new(high, low), slot, number).into_chips()
 }
 
 /// The same of the caller's own buffers, once nothing is lent any more.
@@ -79,9 +74,7 @@ pub fn put_joined<'a, 'b>(
     let memory = Joined::new(Packed::new(first), Packed::new(second));
     let memory = put(memory, slot, number);
     let (one, two) = memory.into_parts();
-    let one = one.into_chip();
-    let two = two.into_chip();
-    (one, two)
+    (one.into_chip(), two.into_chip())
 }
 
 /// The chips of a board.

@@ -1,11 +1,9 @@
 -- Lemmas: two memories in turn keep the law of arrangements.
-use Rattle.std.specs.Prelude.{◌≡◌, ℕ, zero, suc, ◌+◌, ◌*◌, ◌/◌, ◌%◌, ◌<◌, min, List, [], ◌∷◌, length, take, slice_index, refl}
-use Rattle.std.proofs.Common.{sym, ap, ◌∙◌, ⊎_elim, arith, eq-eqb, ne_eqb}
+use Rattle.std.specs.Prelude.{◌≡◌, ℕ, zero, suc, ◌*◌, ◌/◌, ◌<◌, min, List, [], ◌∷◌, length, slice_index, refl}
+use Rattle.std.proofs.Common.{ap, ◌∙◌, arith}
 use Rattle.std.proofs.lemmas.List.{length-take, get_or-take}
 use Rattle.std.proofs.lemmas.Bool.Decides.{nat_tests}
 use Rattle.memory.specs.Slots.{most}
-use Rattle.parts.specs.declared.place.Place.{Place}
-use Rattle.parts.specs.declared.place.Place.TheVariants.{First, Second}
 use Rattle.parts.specs.Parts.{woven, interleaved, interleaved_count, interleaved_first, interleaved_second}
 use Rattle.parts.specs.Places.{interleaved_place}
 use Rattle.parts.specs.Laws.{Laid, Arranges}

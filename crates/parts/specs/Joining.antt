@@ -1,12 +1,10 @@
 -- Lemmas: one memory after the other keeps the law of arrangements.
-use Rattle.std.specs.Prelude.{◌≡◌, ℕ, ◌+◌, ◌<◌, ◌≤◌, min, List, ◌++◌, length, take, slice_index, refl}
-use Rattle.std.proofs.Common.{sym, ap, ◌∙◌, ⊎_elim, arith, lt-ltb, le-ltb}
-use Rattle.std.proofs.lemmas.List.{length-append, length-take, get_or-take, get_or_append_left, get_or-append_right}
+use Rattle.std.specs.Prelude.{◌≡◌, ℕ, ◌<◌, ◌≤◌, min, List, ◌++◌, length, slice_index}
+use Rattle.std.proofs.Common.{ap, ◌∙◌, arith}
+use Rattle.std.proofs.lemmas.List.{length-append, length-take, get_or-take}
 use Rattle.std.proofs.lemmas.Bool.Decides.{nat_tests}
 use Rattle.std.proofs.lemmas.Grind.{common_steps}
 use Rattle.memory.specs.Slots.{most}
-use Rattle.parts.specs.declared.place.Place.{Place}
-use Rattle.parts.specs.declared.place.Place.TheVariants.{First, Second}
 use Rattle.parts.specs.Parts.{joined, joined_count, joined_first, joined_second}
 use Rattle.parts.specs.Places.{joined_place}
 use Rattle.parts.specs.Laws.{Laid, Arranges}

@@ -13,9 +13,10 @@ pub trait Arrangement {
     /// How many these are, of so many and so many.
     ghost slots: { ℕ → ℕ → ℕ };
 
-    /// How many of the first memory's, and of the second's, are among them.
+    /// How many of these are the first memory's.
     ghost used_first: { ℕ → ℕ → ℕ };
 
+    /// And how many the second's.
     ghost used_second: { ℕ → ℕ → ℕ };
 
     /// Where a slot lies if the first memory has so many.
