@@ -4,6 +4,7 @@ use Rattle.refusal.specs.declared.Refusal.{Refusal}
 use Rattle.refusal.specs.declared.Refusal.TheVariants.{Garbled}
 use Rattle.command.specs.declared.forms.Form.{Form}
 use Rattle.command.specs.declared.forms.Form.TheVariants.{Key, Image, Fetch, Write, Status}
+use Rattle.command.specs.declared.words.Word.{Word}
 use Rattle.command.specs.declared.words.Words.{Words}
 use Rattle.command.specs.declared.words.Words.TheVariants as word
 use Rattle.command.specs.declared.words.Command.{Command}
@@ -40,27 +41,29 @@ meaning line = cond (nat_lt most (length line)) (refused (Garbled most)) (meanin
 
 -- what cut words say
 abbrev pub said_by : Words → Meaning
-said_by (word.Key digits place) = load (value_of digits.now)
-said_by (word.Image digits place) = install (bytes_of digits.now)
-said_by (word.Address digits place) = fetch (value_of digits.now)
-said_by (word.Write slot slot_place number number_place) = overwrite (value_of slot.now) (value_of number.now)
+said_by (word.Key w) = load (value_of w.digits.now)
+said_by (word.Image w) = install (bytes_of w.digits.now)
+said_by (word.Address w) = fetch (value_of w.digits.now)
+said_by (word.Write slot number) = overwrite (value_of slot.digits.now) (value_of number.digits.now)
 said_by word.Nothing = status
 
 -- how long each word is
 abbrev pub Sized : Words → Type 0
-Sized (word.Key digits place) = length digits.now ≡ 32
-Sized (word.Image digits place) = length digits.now ≤ 1022
-Sized (word.Address digits place) = length digits.now ≡ 8
-Sized (word.Write slot slot_place number number_place) = (length slot.now ≡ 5) × (length number.now ≡ 12)
+Sized (word.Key w) = length w.digits.now ≡ 32
+Sized (word.Image w) = length w.digits.now ≤ 1022
+Sized (word.Address w) = length w.digits.now ≡ 8
+Sized (word.Write slot number) = (length slot.digits.now ≡ 5) × (length number.digits.now ≡ 12)
 Sized word.Nothing = Unit {0}
 
--- each word is the part of the line at its place
+-- a word is the part of the line at its place, and so is each word of a line
+abbrev pub LiesAt : List ℕ → Word → Type 0
+LiesAt line w = w.digits.now ≡ word_at line w.place (length w.digits.now)
+
 abbrev pub Lies : List ℕ → Words → Type 0
-Lies line (word.Key digits place) = digits.now ≡ word_at line place (length digits.now)
-Lies line (word.Image digits place) = digits.now ≡ word_at line place (length digits.now)
-Lies line (word.Address digits place) = digits.now ≡ word_at line place (length digits.now)
-Lies line (word.Write slot slot_place number number_place) =
-    (slot.now ≡ word_at line slot_place (length slot.now)) × (number.now ≡ word_at line number_place (length number.now))
+Lies line (word.Key w) = LiesAt line w
+Lies line (word.Image w) = LiesAt line w
+Lies line (word.Address w) = LiesAt line w
+Lies line (word.Write slot number) = LiesAt line slot × LiesAt line number
 Lies line word.Nothing = Unit {0}
 
 -- what a command means, with the bytes of an image in a buffer

@@ -1,6 +1,6 @@
 // A line's work on a unit.
 ghost use Rattle.std.specs.Prelude.{◌≡◌};
-ghost use Rattle.command.specs.Lines.{meaning, commanded, Within};
+ghost use Rattle.command.specs.Lines.{meaning};
 ghost use Rattle.command.specs.Sessions.{Performed, Obeys, Lasts, SessionsLast};
 
 use crate::reply::{Reply, reply_of};
@@ -15,29 +15,6 @@ fn perform<C: WordCipher, M: Memory>(unit: &mut Unit<C, M>, call: Call<'_>) -> R
     ensures { Performed C.WordCipher M.Memory unit.old call.entry result unit.new }
 {
     reply_of(unit.perform(call))
-}
-
-// Does what a command says, with the bytes of an image in a buffer.
-fn carry_out<C: WordCipher, M: Memory>(
-    unit: &mut Unit<C, M>,
-    command: Command,
-    image: &[u8; 512],
-) -> Reply
-    requires { Within command }
-    ensures { Obeys C.WordCipher M.Memory unit.old (commanded command image.now) result unit.new }
-{
-    match command {
-        Command::Load { key } => perform(unit, Call::load(key)),
-        Command::Install { size } => perform(
-            unit,
-            Call::Install {
-                image: &image[..size],
-            },
-        ),
-        Command::Fetch { address } => perform(unit, Call::fetch(address)),
-        Command::Overwrite { slot, number } => perform(unit, Call::overwrite(slot, number)),
-        Command::Status => Reply::Status(unit.status()),
-    }
 }
 
 /// Answers a line: a garbled line is refused and a status told, and neither changes anything; any other line is one call
@@ -57,7 +34,16 @@ fn do_line<C: WordCipher, M: Memory>(unit: &mut Unit<C, M>, line: &[u8]) -> Repl
 {
     let mut image = [0u8; 512];
     match parse(line, &mut image) {
-        Ok(command) => carry_out(unit, command, &image),
+        Ok(Command::Load { key }) => perform(unit, Call::load(key)),
+        Ok(Command::Install { size }) => perform(
+            unit,
+            Call::Install {
+                image: &image[..size],
+            },
+        ),
+        Ok(Command::Fetch { address }) => perform(unit, Call::fetch(address)),
+        Ok(Command::Overwrite { slot, number }) => perform(unit, Call::overwrite(slot, number)),
+        Ok(Command::Status) => Reply::Status(unit.status()),
         Err(refusal) => Reply::Refused(refusal),
     }
 }

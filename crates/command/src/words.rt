@@ -1,38 +1,33 @@
 // A line cut into its words, and the command that they make.
-ghost use Rattle.std.specs.Prelude.{◌≡◌, ◌≤◌, true, length, IfOk, MatchResult};
+ghost use Rattle.std.specs.Prelude.{◌≡◌, ◌-◌, ◌≤◌, true, length, IfOk, MatchResult};
 ghost use Rattle.command.specs.Forms.{complete};
 ghost use Rattle.command.specs.Laws.{Judged};
-ghost use Rattle.command.specs.Lines.{command_of, meaning, said_by, commanded, meant, Sized, Lies, Spared, Within};
+ghost use Rattle.command.specs.Lines.{command_of, meaning, said_by, commanded, meant, Sized, LiesAt, Lies, Spared, Within};
 
 use crate::digits::{put_bytes, value_of};
 use crate::forms::{Form, check_line};
 use refusal::Refusal;
 
-/// The words of a line: each is the part of the line that it covers, and keeps its place.
+/// A word of a line: its digits, and the place of the first of them.
+#[derive(Clone, Copy)]
+pub struct Word<'a> {
+    pub digits: &'a [u8],
+    pub place: usize,
+}
+
+/// The words of a line.
 #[derive(Clone, Copy)]
 pub enum Words<'a> {
-    Key {
-        digits: &'a [u8],
-        place: usize,
-    },
-    Image {
-        digits: &'a [u8],
-        place: usize,
-    },
-    Address {
-        digits: &'a [u8],
-        place: usize,
-    },
-    Write {
-        slot: &'a [u8],
-        slot_place: usize,
-        number: &'a [u8],
-        number_place: usize,
-    },
+    Key(Word<'a>),
+    Image(Word<'a>),
+    Address(Word<'a>),
+    Write { slot: Word<'a>, number: Word<'a> },
     Nothing,
 }
 
 /// What a line commands. The bytes of an image stand in a buffer, as many as the size says.
+// Stays: no slice of the buffer in the command. Tried with the buffer lent as a slice, as an array and as a struct: what it
+// holds once the command is done with is not proved where the slice goes out in an enum.
 #[derive(Clone, Copy)]
 pub enum Command {
     Load { key: u128 },
@@ -40,6 +35,20 @@ pub enum Command {
     Fetch { address: u32 },
     Overwrite { slot: u32, number: u64 },
     Status,
+}
+
+// The word of a line from a place up to another.
+fn word_at(line: &[u8], place: usize, end: usize) -> Word<'_>
+    requires ordered { place ≤ end }
+    requires inside { end ≤ length line.now }
+    ensures long { length result.digits.now ≡ end - place }
+    ensures lies { LiesAt line.now result }
+    ensures place { result.place ≡ place }
+{
+    Word {
+        digits: &line[place..end],
+        place,
+    }
 }
 
 // Cuts a line of a form.
@@ -51,23 +60,12 @@ fn cut<'a>(form: Form, line: &'a [u8]) -> Words<'a>
     ensures lies { Lies line.now result }
 {
     match form {
-        Form::Key => Words::Key {
-            digits: &line[2..34],
-            place: 2,
-        },
-        Form::Image => Words::Image {
-            digits: &line[2..],
-            place: 2,
-        },
-        Form::Fetch => Words::Address {
-            digits: &line[2..10],
-            place: 2,
-        },
+        Form::Key => Words::Key(word_at(line, 2, 34)),
+        Form::Image => Words::Image(word_at(line, 2, line.len())),
+        Form::Fetch => Words::Address(word_at(line, 2, 10)),
         Form::Write => Words::Write {
-            slot: &line[2..7],
-            slot_place: 2,
-            number: &line[8..20],
-            number_place: 8,
+            slot: word_at(line, 2, 7),
+            number: word_at(line, 8, 20),
         },
         Form::Status => Words::Nothing,
     }
@@ -81,21 +79,21 @@ fn command_of(words: Words<'_>, image: &mut [u8; 512]) -> Command
     ensures spared { Spared result image.old image.new }
 {
     match words {
-        Words::Key { digits, .. } => Command::Load {
-            key: value_of(digits),
+        Words::Key(word) => Command::Load {
+            key: value_of(word.digits),
         },
-        Words::Image { digits, .. } => {
-            put_bytes(digits, image);
+        Words::Image(word) => {
+            put_bytes(word.digits, image);
             Command::Install {
-                size: digits.len() / 2,
+                size: word.digits.len() / 2,
             }
         }
-        Words::Address { digits, .. } => Command::Fetch {
-            address: value_of(digits) as u32,
+        Words::Address(word) => Command::Fetch {
+            address: value_of(word.digits) as u32,
         },
-        Words::Write { slot, number, .. } => Command::Overwrite {
-            slot: value_of(slot) as u32,
-            number: value_of(number) as u64,
+        Words::Write { slot, number } => Command::Overwrite {
+            slot: value_of(slot.digits) as u32,
+            number: value_of(number.digits) as u64,
         },
         Words::Nothing => Command::Status,
     }
@@ -109,17 +107,6 @@ pub fn parse(line: &[u8], image: &mut [u8; 512]) -> Result<Command, Refusal>
     ensures spared { MatchResult result (λ command. Spared command image.old image.new) (λ _. image.new ≡ image.old) }
     ensures law { Judged line.now }
 {
-    read_line(line, image)
-}
-
-// The same, with no theorem in its contract.
-fn read_line(line: &[u8], image: &mut [u8; 512]) -> Result<Command, Refusal>
-    ensures means { meant result image.new ≡ meaning line.now }
-    ensures within { IfOk result Within }
-    ensures spared { MatchResult result (λ command. Spared command image.old image.new) (λ _. image.new ≡ image.old) }
-{
-    match check_line(line) {
-        Ok(form) => Ok(command_of(cut(form, line), image)),
-        Err(refusal) => Err(refusal),
-    }
+    let form = check_line(line)?;
+    Ok(command_of(cut(form, line), image))
 }

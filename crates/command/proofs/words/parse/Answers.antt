@@ -1,5 +1,8 @@
 use Rattle.command.proofs.Law.{judged}
 use Rattle.command.proofs.words.parse.Goals as goal
 
-pub returns : goal.returns
-returns c = record { means = c.read_line.ensures.means; within = c.read_line.ensures.within; spared = c.read_line.ensures.spared; law = judged c.args.line.now }
+pub returns-in_err-form-clause-law : goal.returns-in_err-form-clause-law
+returns-in_err-form-clause-law c = judged c.args.line.now
+
+pub returns-clause-law : goal.returns-clause-law
+returns-clause-law c = judged c.args.line.now
