@@ -9,6 +9,7 @@ use linear::{LinearMap, apply};
 
 /// The tweak state after the whitening and after each round, and what the data takes of it in each round,
 /// before the word of the key is added.
+// Stays: two arrays; a path is lent the masks alone, and there is one state more than there are masks.
 #[derive(Clone, Copy)]
 pub struct TweakSchedule {
     pub states: [u64; 9],
