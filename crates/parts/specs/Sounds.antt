@@ -1,4 +1,5 @@
 -- Two memories as one keep the law of the slots.
+-- Stays in specs/: the proof of a law is named in src/, and a `ghost use` reaches no proofs/ of its own crate.
 use Rattle.std.specs.Prelude.{ℕ, ◌<◌, ◌≤◌, List, length}
 use Rattle.std.proofs.Common.{arith}
 use Rattle.memory.specs.Slots.{most, wide, Sound}
