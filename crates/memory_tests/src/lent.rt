@@ -77,6 +77,15 @@ pub fn put_joined<'a, 'b>(
     (one.into_chip(), two.into_chip())
 }
 
+/// The same of the caller's own two buffers, once nothing is lent any more.
+pub fn joined_after(first: &mut [u8], second: &mut [u8], slot: u32, number: u64)
+    ensures slots { joined_slots (packed_slots first.new) (packed_slots second.new) ≡ after_write (joined_slots (packed_slots first.old) (packed_slots second.old)) slot number }
+    ensures left_first { left_over first.new ≡ left_over first.old }
+    ensures left_second { left_over second.new ≡ left_over second.old }
+{
+    let _chips = put_joined(first, second, slot, number);
+}
+
 /// The chips of a board.
 #[derive(Drop)]
 pub struct Board<'a> {
