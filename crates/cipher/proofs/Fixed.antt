@@ -6,7 +6,7 @@ use Rattle.cipher.specs.Word.{preimage, decrypted, Laws, LawsFixDecryption}
 -- what is found is a preimage
 preimage_is : (e : ℕ → ℕ) (s n j : ℕ) → preimage e s n ≡ Some j → (j < n) × (e j ≡ s)
 unfolding preimage
-preimage_is e s zero j h = let z : ◌≡◌ {A = ℕ} 0 1 = cc in absurd (omega arith)
+preimage_is e s zero j h = absurd (cc)
 preimage_is e s (suc n) j h = by (eqb (e n) s) refl h (preimage_is e s n j)
   where
     by : (b : Bool) → eqb (e n) s ≡ b → cond b (Some n) (preimage e s n) ≡ Some j → (preimage e s n ≡ Some j → (j < n) × (e j ≡ s)) → (j < suc n) × (e j ≡ s)
@@ -53,7 +53,7 @@ module _ (encrypt : ℕ → ℕ) (decrypt : ℕ → Option ℕ) (τ : ℕ) (laws
       let t = decrypted_is encrypt s j r in
       let u : decrypt (encrypt j) ≡ Some j = laws.first j t.0 in
       let e : encrypt j ≡ s = t.1 in
-      let z : ◌≡◌ {A = ℕ} 0 1 = cc in absurd (omega arith)
+      absurd (cc)
 
 pub laws_fix_decryption : LawsFixDecryption
 laws_fix_decryption encrypt decrypt τ laws s h = fixed_at encrypt decrypt τ laws s h (decrypt s) refl (decrypted encrypt s) refl
@@ -69,4 +69,4 @@ laws_derived encrypt decrypt τ laws = record {
 -- what a test of a stored number lets through
 pub let_through : (b : Bool) (d i : ℕ) → cond b (Some d) None ≡ Some i → (b ≡ true) × (d ≡ i)
 let_through true d i e = (refl, (cc))
-let_through false d i e = let z : ◌≡◌ {A = ℕ} 0 1 = cc in absurd (omega arith)
+let_through false d i e = absurd (cc)

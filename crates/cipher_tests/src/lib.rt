@@ -76,7 +76,7 @@ mod tests {
     use super::*;
     use chilow::word_cipher::ChiLow;
     use cipher::{genuine, round_trip};
-    use refusal::Layer;
+    use refusal::{Layer, Note, Refusal};
     use std::process::Abort;
     use std::test::Fail;
 
@@ -94,14 +94,10 @@ mod tests {
         }
     }
 
-    fn made(mode: Mode, tag_length: u32) -> Result<ChiLow, Fail> {
-        match ChiLow::new(mode, tag_length) {
-            Ok(mut cipher) => {
-                cipher.load(KEY);
-                Ok(cipher)
-            }
-            Err(_) => Err(Fail::new("a tag length that fits is refused")),
-        }
+    fn made(mode: Mode, tag_length: u32) -> Result<ChiLow, Refusal> {
+        let mut cipher = ChiLow::new(mode, tag_length)?;
+        cipher.load(KEY);
+        Ok(cipher)
     }
 
     #[test]
@@ -150,16 +146,17 @@ mod tests {
             (Mode::Block, 9),
             (Mode::Block, 16),
         ] {
-            match ChiLow::new(mode, tag_length) {
-                Ok(_) => {
-                    return Err(Fail::new("a tag length that does not fit is taken"));
+            let refusal = ChiLow::new(mode, tag_length)
+                .err()
+                .ok_or("a tag length that does not fit is taken")?;
+            assert_eq!(rt;
+                refusal.note(),
+                Note {
+                    number: 3,
+                    place: 3,
+                    layer: Layer::Cipher
                 }
-                Err(refusal) => {
-                    let note = refusal.note();
-                    assert!(rt; note.number == 3 && note.place == 3);
-                    assert_eq!(rt; note.layer, Layer::Cipher);
-                }
-            }
+            );
         }
         Ok(())
     }

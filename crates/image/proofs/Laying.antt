@@ -103,9 +103,6 @@ module _ (h : Head) (rs : List ℕ) (proper : Proper h) (many : length rs ≡ h.
   abbrev R : ℕ
   R = joined (record_fields h rs) H
 
-  bits_are : 8 * n ≡ 66 + h.count * B + pad
-  bits_are = omega arith
-
   no_pad : R * 2 ^ pad / 2 ^ pad ≡ R
   no_pad = shl-shr R pad
 
@@ -175,7 +172,7 @@ layout_is_read h rs proper many small = record {
 -- ---- bytes that are read as an image
 -- what tests that come to nothing let through
 pub passed : {A : Type 0} (b : Bool) (e : A) (o : Option A) → cond b (Some e) o ≡ None → (b ≡ false) × (o ≡ None)
-passed true e o h = let z : ◌≡◌ {A = ℕ} 0 1 = cc in absurd (omega arith)
+passed true e o h = absurd (cc)
 passed false e o h = (refl, h)
 
 not_false : (b : Bool) → not b ≡ false → b ≡ true
@@ -183,12 +180,12 @@ not_false true h = refl
 not_false false h = sym h
 
 pub both_none : (a b : Option Refusal) → or_else a b ≡ None → (a ≡ None) × (b ≡ None)
-both_none (Some e) b h = let z : ◌≡◌ {A = ℕ} 0 1 = cc in absurd (omega arith)
+both_none (Some e) b h = absurd (cc)
 both_none None b h = (refl, h)
 
 pub fits_then : (b : Bool) (e : Refusal) → cond b None (Some e) ≡ None → b ≡ true
 fits_then true e h = refl
-fits_then false e h = let z : ◌≡◌ {A = ℕ} 0 1 = cc in absurd (omega arith)
+fits_then false e h = absurd (cc)
 
 module _ (bytes : List ℕ) (accepted : refusal_of bytes ≡ None) where
   abbrev g : Head

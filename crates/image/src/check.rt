@@ -1,5 +1,6 @@
 // Checking an image, and reading its records.
-ghost use Rattle.std.specs.Prelude.{◌≡◌, ◌<◌, Some, None, MatchResult};
+ghost use Rattle.std.specs.Prelude.{◌≡◌};
+ghost use Rattle.refusal.specs.Rows.{RefusedBy, RefusedByOr};
 ghost use Rattle.image.specs.Laws.{LayoutIsRead, OnlyLayoutIsRead};
 ghost use Rattle.image.specs.Reading.{head_in, head_of, record_in, record_at, pad_in, head_refusal, fit_refusal, foreign_to, foreign_refusal, refusal_of};
 
@@ -10,7 +11,7 @@ use refusal::{HeaderField, Refusal};
 
 /// The header of an image, or the first refusal that fits it.
 pub fn read_header(bytes: &[u8]) -> Result<Header, Refusal>
-    ensures { MatchResult result (λ h. (head_refusal bytes.now ≡ None) × (head_of h ≡ head_in bytes.now)) (λ e. head_refusal bytes.now ≡ Some e) }
+    ensures { RefusedByOr (head_refusal bytes.now) result (λ header. head_of header ≡ head_in bytes.now) }
 {
     if bytes.len() < 9 {
         return Err(Refusal::Stub {
@@ -43,9 +44,10 @@ pub fn read_header(bytes: &[u8]) -> Result<Header, Refusal>
     })
 }
 
+// Stays: bytes and header are two parameters here and in `read_record` alone, and a method of either reads no plainer.
 /// Whether an image has exactly the length that its header says, with all pad bits zero, or the refusal.
 pub fn check_fit(bytes: &[u8], header: &Header) -> Result<(), Refusal>
-    ensures { MatchResult result (λ _. fit_refusal bytes.now (head_of header.now) ≡ None) (λ e. fit_refusal bytes.now (head_of header.now) ≡ Some e) }
+    ensures { RefusedBy (fit_refusal bytes.now (head_of header.now)) result }
 {
     let right_length = header.image_length();
     let end = header.end();
@@ -65,7 +67,7 @@ pub fn is_foreign<C: WordCipher>(header: &Header, cipher: &C) -> bool
 
 /// Whether an image with that header is for the cipher, or the refusal.
 pub fn check_cipher<C: WordCipher>(header: &Header, cipher: &C) -> Result<(), Refusal>
-    ensures { MatchResult result (λ _. foreign_refusal (C.mode_of cipher.now) (C.tag_of cipher.now) (head_of header.now) ≡ None) (λ e. foreign_refusal (C.mode_of cipher.now) (C.tag_of cipher.now) (head_of header.now) ≡ Some e) }
+    ensures { RefusedBy (foreign_refusal (C.mode_of cipher.now) (C.tag_of cipher.now) (head_of header.now)) result }
 {
     if is_foreign(header, cipher) {
         Err(Refusal::Foreign)
@@ -76,7 +78,7 @@ pub fn check_cipher<C: WordCipher>(header: &Header, cipher: &C) -> Result<(), Re
 
 /// The header of an image that is right in every way but its records, or the first refusal that fits.
 pub fn check_image(bytes: &[u8]) -> Result<Header, Refusal>
-    ensures answer { MatchResult result (λ h. (refusal_of bytes.now ≡ None) × (head_of h ≡ head_in bytes.now)) (λ e. refusal_of bytes.now ≡ Some e) }
+    ensures answer { RefusedByOr (refusal_of bytes.now) result (λ header. head_of header ≡ head_in bytes.now) }
     ensures laid { LayoutIsRead }
     ensures only { OnlyLayoutIsRead }
 {
@@ -84,7 +86,7 @@ pub fn check_image(bytes: &[u8]) -> Result<Header, Refusal>
 }
 
 fn checked(bytes: &[u8]) -> Result<Header, Refusal>
-    ensures { MatchResult result (λ h. (refusal_of bytes.now ≡ None) × (head_of h ≡ head_in bytes.now)) (λ e. refusal_of bytes.now ≡ Some e) }
+    ensures { RefusedByOr (refusal_of bytes.now) result (λ header. head_of header ≡ head_in bytes.now) }
 {
     let header = read_header(bytes)?;
     check_fit(bytes, &header)?;

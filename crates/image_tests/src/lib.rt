@@ -5,7 +5,7 @@
 mod tests {
     use bits::field::write_field;
     use image::check::{check_image, read_record};
-    use refusal::Layer;
+    use refusal::{Layer, Note};
     use std::alloc::{AllocError, Global};
     use std::process::Abort;
     use std::test::Fail;
@@ -58,51 +58,44 @@ mod tests {
         place: u32,
     ) -> Result<(), Fail> {
         let bytes = bytes_of(heap, raw)?;
-        refused_bytes(rt, bytes.as_slice(), number, place)
+        refused_bytes(rt, bytes.as_slice(), number, place);
+        Ok(())
     }
 
-    fn refused_bytes(rt: &impl Abort, bytes: &[u8], number: u32, place: u32) -> Result<(), Fail> {
-        match check_image(bytes) {
-            Ok(_) => Err(Fail::new("an image that is not right is accepted")),
-            Err(refusal) => {
-                let note = refusal.note();
-                assert_eq!(rt; note.number, number);
-                assert_eq!(rt; note.place, place);
-                assert_eq!(rt; note.layer, Layer::Image);
-                Ok(())
-            }
-        }
+    fn refused_bytes(rt: &impl Abort, bytes: &[u8], number: u32, place: u32) {
+        let layer = Layer::Image;
+        let note = check_image(bytes).map_err(|refusal| refusal.note());
+        assert_eq!(rt;
+            note,
+            Err(Note {
+                number,
+                place,
+                layer
+            })
+        );
     }
 
     fn accepted(rt: &impl Abort, heap: Global, raw: Raw) -> Result<(), Fail> {
         let bytes = bytes_of(heap, raw)?;
-        match check_image(bytes.as_slice()) {
-            Ok(header) => {
-                assert_eq!(rt; u64::from(header.mode()), raw.mode);
-                assert_eq!(rt; u64::from(header.tag_length()), raw.tag);
-                assert_eq!(rt; u64::from(header.version()), raw.version);
-                assert_eq!(rt; u64::from(header.base()), raw.base);
-                assert_eq!(rt; u64::from(header.count()), raw.count);
-                Ok(())
-            }
-            Err(_) => Err(Fail::new("an image is refused")),
-        }
+        let header = check_image(bytes.as_slice())?;
+        assert_eq!(rt; u64::from(header.mode()), raw.mode);
+        assert_eq!(rt; u64::from(header.tag_length()), raw.tag);
+        assert_eq!(rt; u64::from(header.version()), raw.version);
+        assert_eq!(rt; u64::from(header.base()), raw.base);
+        assert_eq!(rt; u64::from(header.count()), raw.count);
+        Ok(())
     }
 
     #[test]
     fn example(rt: HostRuntime) -> Result<(), Fail> {
-        match check_image(&EXAMPLE) {
-            Ok(header) => {
-                assert_eq!(rt; header.tag_length(), 16);
-                assert_eq!(rt; header.version(), 7);
-                assert_eq!(rt; header.base(), 0x400);
-                assert_eq!(rt; read_record(&EXAMPLE, &header, 0), Some(0x0123_4567_89AB));
-                assert_eq!(rt; read_record(&EXAMPLE, &header, 1), Some(1));
-                assert_eq!(rt; read_record(&EXAMPLE, &header, 2), None);
-                Ok(())
-            }
-            Err(_) => Err(Fail::new("the example is refused")),
-        }
+        let header = check_image(&EXAMPLE)?;
+        assert_eq!(rt; header.tag_length(), 16);
+        assert_eq!(rt; header.version(), 7);
+        assert_eq!(rt; header.base(), 0x400);
+        assert_eq!(rt; read_record(&EXAMPLE, &header, 0), Some(0x0123_4567_89AB));
+        assert_eq!(rt; read_record(&EXAMPLE, &header, 1), Some(1));
+        assert_eq!(rt; read_record(&EXAMPLE, &header, 2), None);
+        Ok(())
     }
 
     #[test]
@@ -208,8 +201,8 @@ mod tests {
     #[test]
     fn lengths(rt: HostRuntime) -> Result<(), Fail> {
         let heap = rt.alloc();
-        refused_bytes(&rt, &[], 2, 0)?;
-        refused_bytes(&rt, &[0xFF; 8], 2, 8)?;
+        refused_bytes(&rt, &[], 2, 0);
+        refused_bytes(&rt, &[0xFF; 8], 2, 8);
         refused(&rt, heap, Raw { length: 13, ..ONE }, 4, 14)?;
         refused(&rt, heap, Raw { length: 15, ..ONE }, 4, 14)?;
         for tag in 8..17u32 {
@@ -227,7 +220,7 @@ mod tests {
         for bit in 106..112 {
             let mut bytes = bytes_of(heap, ONE)?;
             write_field(bytes.as_mut_slice(), bit, 1, 1);
-            refused_bytes(&rt, bytes.as_slice(), 4, 14)?;
+            refused_bytes(&rt, bytes.as_slice(), 4, 14);
         }
         accepted(
             &rt,

@@ -1,5 +1,5 @@
 -- What the calls that the list call makes come to.
-use Rattle.std.proofs.Common.{◌≡◌, ℕ, ◌+◌, ◌-◌, ◌*◌, ◌^◌, ◌<◌, List, length, get_or, take, IfOk, None, Ok, Err, Result, sym, refl, ap, ◌∙◌, subst, inl, inr, zero-add, arith, MatchResult}
+use Rattle.std.proofs.Common.{◌≡◌, ℕ, ◌+◌, ◌-◌, ◌*◌, ◌^◌, ◌<◌, List, length, get_or, take, None, sym, refl, ap, ◌∙◌, subst, inl, inr, zero-add, arith}
 use Rattle.std.proofs.lemmas.List.{get_or-take, get_or_past, length-take}
 use Rattle.std.proofs.lemmas.Bool.{cases_lt}
 use Rattle.bits.specs.Field.{Written}
@@ -9,11 +9,6 @@ use Rattle.shore.specs.declared.draft.ClosedDraft.{ClosedDraft}
 use Rattle.shore.specs.Drafting.{KeyedCipher, head_for, open_refusal, Tells}
 use Rattle.shore.specs.Making.{Made, image_of, Chain, KeptPast}
 use Rattle.shore.proofs.Making.{Filled, filled_by, made_is_image}
-
--- a fact of what is in an `Ok`
-pub made_from : {T E : Type 0} (r : Result T E) (P : T → Type 0) (Q : E → Type 0) (S : T → Type 0) → MatchResult r P Q → ((x : T) → P x → S x) → IfOk r S
-made_from (Ok x) P Q S p f = f x p
-made_from (Err e) P Q S q f = tt
 
 -- bytes below 256 are so at the start
 taken_small : (n : ℕ) (xs : List ℕ) → ((k : ℕ) → get_or xs k 0 < 256) → (k : ℕ) → get_or (take n xs) k 0 < 256

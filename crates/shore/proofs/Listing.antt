@@ -1,10 +1,8 @@
 -- The loop that puts the instructions of a list.
-use Rattle.std.proofs.Common.{◌≡◌, ℕ, ◌+◌, ◌<◌, ◌≤◌, false, ltb, leb, List, [], ◌∷◌, ◌++◌, length, get_or, take, None, sym, refl, ap, ◌∙◌, subst, add_assoc, arith}
+use Rattle.std.proofs.Common.{◌≡◌, ℕ, ◌+◌, ◌<◌, ◌≤◌, List, [], ◌∷◌, ◌++◌, length, get_or, take, sym, refl, ap, ◌∙◌, subst, add_assoc}
 use Rattle.std.proofs.lemmas.List.{take_more, take_all}
-use Rattle.std.proofs.lemmas.Bool.{cond-false, le-ltb, lt-leb}
-use Rattle.image.specs.Layout.{Head, image_length}
 use Rattle.shore.specs.declared.draft.Draft.{Draft}
-use Rattle.shore.specs.Drafting.{KeyedCipher, draft_head, foreign, short_refusal, put_refusal, Advanced}
+use Rattle.shore.specs.Drafting.{KeyedCipher, draft_head, Advanced}
 use Rattle.shore.specs.Making.{PutAll}
 
 -- one more at the end of a chain
@@ -26,9 +24,6 @@ module _ (c : KeyedCipher) (is : List ℕ) (d : Draft) (before : List ℕ) where
   whole : (n : ℕ) (e : Draft) (after : List ℕ) → PutAll c d before (take n is) e after → length is ≤ n → PutAll c d before is e after
   whole n e after so_far l = subst (λ (xs : List ℕ). PutAll c d before xs e after) (take_all n is l) so_far
 
-  pub reached_none : Reached c is d before 0 d before
-  reached_none = record { head = refl; put = (let q : d.put ≡ d.put + 0 = omega arith in q); so_far = (refl, refl); all = whole 0 d before (refl, refl) }
-
   pub reached_more : (n : ℕ) (e : Draft) (mid : List ℕ) (i : ℕ) (next : Draft) (after : List ℕ)
       → n < length is → i ≡ get_or is n 0 → Reached c is d before n e mid → Advanced c e i mid after next → Reached c is d before (n + 1) next after
   reached_more n e mid i next after l item reached step =
@@ -41,15 +36,3 @@ module _ (c : KeyedCipher) (is : List ℕ) (d : Draft) (before : List ℕ) where
         so_far = longer;
         all = whole (n + 1) next after longer;
       }
-
-  -- where there is room for all, none is refused
-  pub never_refused : (n : ℕ) (e : Draft) (mid : List ℕ) → foreign c (draft_head d) ≡ false → d.put + length is ≤ (draft_head d).count → image_length (draft_head d) ≤ length mid
-      → n < length is → Reached c is d before n e mid → put_refusal c e mid ≡ None
-  never_refused n e mid own many room l reached =
-      let h : draft_head e ≡ draft_head d = reached.head in
-      let p : e.put ≡ d.put + n = reached.put in
-      let few : e.put < (draft_head e).count = subst (λ (g : Head). e.put < g.count) (sym h) (omega arith) in
-      cond-false (leb (draft_head e).count e.put) _ _ (lt-leb (draft_head e).count e.put few)
-      ∙ cond-false (foreign c (draft_head e)) _ _ (ap (foreign c) h ∙ own)
-      ∙ ap (λ (g : Head). short_refusal g mid) h
-      ∙ cond-false (ltb (length mid) (image_length (draft_head d))) _ _ (le-ltb (length mid) (image_length (draft_head d)) room)

@@ -1,13 +1,14 @@
 // Opening a draft, putting its words, closing it.
-ghost use Rattle.std.specs.Prelude.{◌≡◌, ◌+◌, ◌<◌, Some, None, MatchResult};
+ghost use Rattle.std.specs.Prelude.{◌≡◌, ◌+◌, ◌<◌, OnOk};
+ghost use Rattle.refusal.specs.Rows.{RefusedBy};
 ghost use Rattle.image.specs.Reading.{head_of};
-ghost use Rattle.shore.specs.Drafting.{keyed_by, short_refusal, encryption, Opens, Puts, Closes};
+ghost use Rattle.shore.specs.Drafting.{keyed_by, short_refusal, put_refusal, close_refusal, encryption, Opens, Puts, Closes};
 ghost use Rattle.shore.specs.Making.{MadeIsImage};
 
 use crate::draft::{ClosedDraft, Draft, HandedBack};
 use crate::write::{write_header, write_pad, write_record};
 use cipher::{WordCipher, tweak_of};
-use image::check::is_foreign;
+use image::check::check_cipher;
 use image::header::Header;
 use refusal::Refusal;
 
@@ -25,13 +26,12 @@ impl Draft {
         if version == 0 {
             return Err(Refusal::BadDraft);
         }
-        let Some(header) = Header::new(cipher.mode(), cipher.tag_length(), version, base, count)
-        else {
-            return Err(Refusal::BadDraft);
-        };
+        let header = Header::new(cipher.mode(), cipher.tag_length(), version, base, count).ok_or(
+            Refusal::BadDraft,
+        )?;
         check_room(&header, buffer)?;
         write_header(&header, buffer);
-        Ok(Draft::of(header))
+        Ok(Draft { header, put: 0 })
     }
 
     /// Puts the next word: its record is then in the buffer.
@@ -43,20 +43,21 @@ impl Draft {
     ) -> Result<Draft, HandedBack>
         ensures { Puts (keyed_by C.WordCipher cipher.now) self instruction buffer.old buffer.new result }
     {
-        let header = self.header();
-        let put = self.words_put();
-        if put >= header.count() {
-            return Err(self.handed_back(Refusal::DraftFull { put }));
+        // Stays: `map_err` with `?` would move the draft into its closure where nothing is refused too.
+        if let Err(refusal) = self.check_put(cipher, buffer) {
+            return Err(HandedBack {
+                draft: self,
+                refusal,
+            });
         }
-        if is_foreign(&header, cipher) {
-            return Err(self.handed_back(Refusal::Foreign));
-        }
-        if let Err(refusal) = check_room(&header, buffer) {
-            return Err(self.handed_back(refusal));
-        }
+        let header = self.header;
+        let put = self.put;
         let stored = stored_word(cipher, &header, put, instruction);
         write_record(&header, put, stored, buffer);
-        Ok(self.with_one_more())
+        Ok(Draft {
+            header,
+            put: put + 1,
+        })
     }
 
     /// Closes the draft: the pad bits are then zero, and the image is whole.
@@ -70,22 +71,50 @@ impl Draft {
     fn finish(self, buffer: &mut [u8]) -> Result<ClosedDraft, HandedBack>
         ensures { Closes self buffer.old buffer.new result }
     {
-        let header = self.header();
-        let put = self.words_put();
-        if put < header.count() {
-            return Err(self.handed_back(Refusal::DraftShort { put }));
+        if let Err(refusal) = self.check_close(buffer) {
+            return Err(HandedBack {
+                draft: self,
+                refusal,
+            });
         }
-        if let Err(refusal) = check_room(&header, buffer) {
-            return Err(self.handed_back(refusal));
-        }
+        let header = self.header;
         write_pad(&header, buffer);
-        Ok(ClosedDraft::of(&header))
+        Ok(ClosedDraft {
+            version: header.version(),
+            base: header.base(),
+            count: header.count(),
+            length: header.image_length(),
+        })
+    }
+
+    // Whether the next word can be put, or the first refusal that fits.
+    fn check_put<C: WordCipher>(&self, cipher: &C, buffer: &[u8]) -> Result<(), Refusal>
+        ensures row { RefusedBy (put_refusal (keyed_by C.WordCipher cipher.now) self.now buffer.now) result }
+        ensures more { OnOk result (self.now.put < self.now.header.count) }
+    {
+        let put = self.put;
+        if put >= self.header.count() {
+            return Err(Refusal::DraftFull { put });
+        }
+        check_cipher(&self.header, cipher)?;
+        check_room(&self.header, buffer)
+    }
+
+    // Whether the draft can be closed, or the first refusal that fits.
+    fn check_close(&self, buffer: &[u8]) -> Result<(), Refusal>
+        ensures { RefusedBy (close_refusal self.now buffer.now) result }
+    {
+        let put = self.put;
+        if put < self.header.count() {
+            return Err(Refusal::DraftShort { put });
+        }
+        check_room(&self.header, buffer)
     }
 }
 
 // Whether the buffer has room for the image, or the refusal.
 fn check_room(header: &Header, buffer: &[u8]) -> Result<(), Refusal>
-    ensures { MatchResult result (λ _. short_refusal (head_of header.now) buffer.now ≡ None) (λ e. short_refusal (head_of header.now) buffer.now ≡ Some e) }
+    ensures { RefusedBy (short_refusal (head_of header.now) buffer.now) result }
 {
     let needed = header.image_length();
     if buffer.len() < needed as usize {

@@ -1,5 +1,5 @@
 // Making an image from all its instructions at once.
-ghost use Rattle.std.specs.Prelude.{◌≡◌, ◌+◌, ◌≤◌, false, length, take, IfOk, Some, MatchResult};
+ghost use Rattle.std.specs.Prelude.{◌≡◌, ◌+◌, ◌≤◌, false, length, take, IfOk, IfErr, Some, MatchResult};
 ghost use Rattle.image.specs.Layout.{image_length};
 ghost use Rattle.shore.specs.Drafting.{keyed_by, draft_head, foreign, open_refusal};
 ghost use Rattle.shore.specs.Making.{PutAll, Made, image_of, Lists, KeptPast, Chain};
@@ -32,12 +32,10 @@ fn draft_all<C: WordCipher>(
     instructions: &[u32],
     buffer: &mut [u8],
 ) -> Result<ClosedDraft, Refusal>
-    ensures { MatchResult result (Chain (keyed_by C.WordCipher cipher.now) version base instructions.now buffer.old buffer.new) (λ e. (open_refusal (keyed_by C.WordCipher cipher.now) version base (length instructions.now) buffer.old ≡ Some e) × (buffer.new ≡ buffer.old)) }
+    ensures chain { IfOk result (Chain (keyed_by C.WordCipher cipher.now) version base instructions.now buffer.old buffer.new) }
+    ensures refused { IfErr result (λ e. (open_refusal (keyed_by C.WordCipher cipher.now) version base (length instructions.now) buffer.old ≡ Some e) × (buffer.new ≡ buffer.old)) }
 {
-    if instructions.len() > 0xF_FFFF {
-        return Err(Refusal::BadDraft);
-    }
-    let count = instructions.len() as u32;
+    let count = u32::try_from(instructions.len()).map_err(|_| Refusal::BadDraft)?;
     let opened = Draft::open(cipher, version, base, count, buffer)?;
     let filled = put_all(opened, cipher, instructions, buffer)?;
     Ok(filled.close(buffer)?)

@@ -6,8 +6,8 @@ mod tests {
     use chilow::word_cipher::ChiLow;
     use cipher::{Mode, WordCipher};
     use cipher_tests::Bare;
-    use refusal::{Layer, Refusal};
-    use shore::draft::{ClosedDraft, Draft};
+    use refusal::{Layer, Note, Refusal};
+    use shore::draft::{ClosedDraft, Draft, HandedBack};
     use shore::list::make_image;
     use std::process::Abort;
     use std::test::Fail;
@@ -40,45 +40,28 @@ mod tests {
         0xF3, 0x7B, 0xC0, 0x3F,
     ];
 
-    fn told(
-        rt: &impl Abort,
-        refusal: Refusal,
-        number: u32,
-        place: u32,
-        layer: Layer,
-    ) -> Result<(), Fail> {
-        let note = refusal.note();
-        assert_eq!(rt; note.number, number);
-        assert_eq!(rt; note.place, place);
-        assert_eq!(rt; note.layer, layer);
-        Ok(())
+    fn note(number: u32, place: u32, layer: Layer) -> Note {
+        Note {
+            number,
+            place,
+            layer,
+        }
+    }
+
+    fn draft_note(number: u32, place: u32) -> Note {
+        note(number, place, Layer::Draft)
     }
 
     fn untouched(rt: &impl Abort, buffer: &[u8]) {
-        for byte in buffer {
-            assert_eq!(rt; *byte, 0xFF);
-        }
+        assert!(rt; buffer.iter().all(|byte| *byte == 0xFF));
     }
 
-    fn opened(buffer: &mut [u8]) -> Result<Draft, Fail> {
-        match Draft::open(&Bare::new(1), 7, 0x400, 2, buffer) {
-            Ok(draft) => Ok(draft),
-            Err(_) => Err(Fail::new("a draft is not opened")),
-        }
+    fn opened(buffer: &mut [u8]) -> Result<Draft, Refusal> {
+        Draft::open(&Bare::new(1), 7, 0x400, 2, buffer)
     }
 
-    fn put(draft: Draft, word: u32, buffer: &mut [u8]) -> Result<Draft, Fail> {
-        match draft.put(&Bare::new(1), word, buffer) {
-            Ok(next) => Ok(next),
-            Err(_) => Err(Fail::new("a word is not put")),
-        }
-    }
-
-    fn closed(draft: Draft, buffer: &mut [u8]) -> Result<ClosedDraft, Fail> {
-        match draft.close(buffer) {
-            Ok(made) => Ok(made),
-            Err(_) => Err(Fail::new("a draft is not closed")),
-        }
+    fn put(draft: Draft, word: u32, buffer: &mut [u8]) -> Result<Draft, HandedBack> {
+        draft.put(&Bare::new(1), word, buffer)
     }
 
     // The draft, when a put is refused so.
@@ -87,33 +70,28 @@ mod tests {
         draft: Draft,
         cipher: &C,
         buffer: &mut [u8],
-        number: u32,
-        place: u32,
-        layer: Layer,
+        expected: Note,
     ) -> Result<Draft, Fail> {
-        match draft.put(cipher, 5, buffer) {
-            Ok(_) => Err(Fail::new("a word is put that must be refused")),
-            Err(back) => {
-                told(rt, back.refusal, number, place, layer)?;
-                Ok(back.draft)
-            }
-        }
+        let back = draft
+            .put(cipher, 5, buffer)
+            .err()
+            .ok_or("a word is put that must be refused")?;
+        assert_eq!(rt; back.refusal.note(), expected);
+        Ok(back.draft)
     }
 
     fn close_refused(
         rt: &impl Abort,
         draft: Draft,
         buffer: &mut [u8],
-        number: u32,
-        place: u32,
+        expected: Note,
     ) -> Result<Draft, Fail> {
-        match draft.close(buffer) {
-            Ok(_) => Err(Fail::new("a draft is closed that must be refused")),
-            Err(back) => {
-                told(rt, back.refusal, number, place, Layer::Draft)?;
-                Ok(back.draft)
-            }
-        }
+        let back = draft
+            .close(buffer)
+            .err()
+            .ok_or("a draft is closed that must be refused")?;
+        assert_eq!(rt; back.refusal.note(), expected);
+        Ok(back.draft)
     }
 
     // Opening with these is refused over 19 bytes, which stay as they are.
@@ -122,27 +100,21 @@ mod tests {
         version: u32,
         base: u32,
         count: u32,
-        number: u32,
-        place: u32,
+        expected: Note,
     ) -> Result<(), Fail> {
         let mut buffer = [0xFF; 19];
-        match Draft::open(&Bare::new(1), version, base, count, &mut buffer) {
-            Ok(_) => return Err(Fail::new("a draft is opened that must be refused")),
-            Err(refusal) => told(rt, refusal, number, place, Layer::Draft)?,
-        }
+        let refusal = Draft::open(&Bare::new(1), version, base, count, &mut buffer)
+            .err()
+            .ok_or("a draft is opened that must be refused")?;
+        assert_eq!(rt; refusal.note(), expected);
         untouched(rt, &buffer);
         Ok(())
     }
 
     fn open_accepted(rt: &impl Abort, version: u32, base: u32, count: u32) -> Result<(), Fail> {
-        let mut buffer = [0xFF; 19];
-        match Draft::open(&Bare::new(1), version, base, count, &mut buffer) {
-            Ok(draft) => {
-                assert_eq!(rt; draft.words_put(), 0);
-                Ok(())
-            },
-            Err(_) => Err(Fail::new("a draft is refused")),
-        }
+        let draft = Draft::open(&Bare::new(1), version, base, count, &mut [0xFF; 19])?;
+        assert_eq!(rt; draft.words_put(), 0);
+        Ok(())
     }
 
     fn list_refused(
@@ -150,13 +122,13 @@ mod tests {
         words: &[u32],
         version: u32,
         buffer: &mut [u8],
-        number: u32,
-        place: u32,
+        expected: Note,
     ) -> Result<(), Fail> {
-        match make_image(&Bare::new(1), version, 0x400, words, buffer) {
-            Ok(_) => Err(Fail::new("an image is made that must be refused")),
-            Err(refusal) => told(rt, refusal, number, place, Layer::Draft),
-        }
+        let refusal = make_image(&Bare::new(1), version, 0x400, words, buffer)
+            .err()
+            .ok_or("an image is made that must be refused")?;
+        assert_eq!(rt; refusal.note(), expected);
+        Ok(())
     }
 
     fn tells_both(rt: &impl Abort, made: ClosedDraft) {
@@ -176,7 +148,7 @@ mod tests {
         assert_eq!(rt; draft.words_put(), 1);
         let draft = put(draft, WORDS[1], &mut buffer)?;
         assert!(rt; buffer.as_slice() == BOTH_PUT.as_slice());
-        tells_both(&rt, closed(draft, &mut buffer)?);
+        tells_both(&rt, draft.close(&mut buffer)?);
         assert!(rt; buffer.as_slice() == IMAGE.as_slice());
         Ok(())
     }
@@ -184,10 +156,8 @@ mod tests {
     #[test]
     fn all_at_once(rt: HostRuntime) -> Result<(), Fail> {
         let mut buffer = [0xFF; 24];
-        match make_image(&Bare::new(1), 7, 0x400, &WORDS, &mut buffer[2..24]) {
-            Ok(made) => tells_both(&rt, made),
-            Err(_) => return Err(Fail::new("an image is not made")),
-        }
+        let made = make_image(&Bare::new(1), 7, 0x400, &WORDS, &mut buffer[2..24])?;
+        tells_both(&rt, made);
         untouched(&rt, &buffer[0..2]);
         assert!(rt; &buffer[2..21] == IMAGE.as_slice());
         untouched(&rt, &buffer[21..24]);
@@ -196,34 +166,40 @@ mod tests {
 
     #[test]
     fn bad_drafts(rt: HostRuntime) -> Result<(), Fail> {
-        open_refused(&rt, 0, 0x400, 2, 15, 0)?;
+        open_refused(&rt, 0, 0x400, 2, draft_note(15, 0))?;
         open_accepted(&rt, 1, 0x400, 2)?;
         open_accepted(&rt, 255, 0x400, 2)?;
-        open_refused(&rt, 256, 0x400, 2, 15, 0)?;
-        open_refused(&rt, 7, 0x400, 0, 15, 0)?;
+        open_refused(&rt, 256, 0x400, 2, draft_note(15, 0))?;
+        open_refused(&rt, 7, 0x400, 0, draft_note(15, 0))?;
         open_accepted(&rt, 7, 0x400, 1)?;
         // as many words as can be, for which 19 bytes are too few: (66 + 1048575 * 40 + 7) / 8 are needed
-        open_refused(&rt, 7, 0x400, 1_048_575, 16, 5_242_884)?;
-        open_refused(&rt, 7, 0x400, 1_048_576, 15, 0)?;
+        open_refused(&rt, 7, 0x400, 1_048_575, draft_note(16, 5_242_884))?;
+        open_refused(&rt, 7, 0x400, 1_048_576, draft_note(15, 0))?;
         open_accepted(&rt, 7, 0x3FFF_FFFF, 1)?;
-        open_refused(&rt, 7, 0x4000_0000, 1, 15, 0)?;
-        open_refused(&rt, 7, 0x3FFF_FFFF, 2, 15, 0)?;
-        open_refused(&rt, 0xFFFF_FFFF, 0xFFFF_FFFF, 0xFFFF_FFFF, 15, 0)
+        open_refused(&rt, 7, 0x4000_0000, 1, draft_note(15, 0))?;
+        open_refused(&rt, 7, 0x3FFF_FFFF, 2, draft_note(15, 0))?;
+        open_refused(
+            &rt,
+            0xFFFF_FFFF,
+            0xFFFF_FFFF,
+            0xFFFF_FFFF,
+            draft_note(15, 0),
+        )
     }
 
     #[test]
     fn short_buffers(rt: HostRuntime) -> Result<(), Fail> {
-        open_refused(&rt, 7, 0x400, 3, 16, 24)?;
+        open_refused(&rt, 7, 0x400, 3, draft_note(16, 24))?;
         let mut buffer = [0xFF; 19];
         let mut short = [0xFF; 18];
         let draft = opened(&mut buffer)?;
-        let draft = put_refused(&rt, draft, &Bare::new(1), &mut short, 16, 19, Layer::Draft)?;
+        let draft = put_refused(&rt, draft, &Bare::new(1), &mut short, draft_note(16, 19))?;
         assert_eq!(rt; draft.words_put(), 0);
         let draft = put(draft, WORDS[0], &mut buffer)?;
         let draft = put(draft, WORDS[1], &mut buffer)?;
-        let draft = close_refused(&rt, draft, &mut short, 16, 19)?;
+        let draft = close_refused(&rt, draft, &mut short, draft_note(16, 19))?;
         untouched(&rt, &short);
-        tells_both(&rt, closed(draft, &mut buffer)?);
+        tells_both(&rt, draft.close(&mut buffer)?);
         assert!(rt; buffer.as_slice() == IMAGE.as_slice());
         Ok(())
     }
@@ -232,12 +208,12 @@ mod tests {
     fn full_and_short_drafts(rt: HostRuntime) -> Result<(), Fail> {
         let mut buffer = [0xFF; 19];
         let draft = opened(&mut buffer)?;
-        let draft = close_refused(&rt, draft, &mut buffer, 18, 0)?;
+        let draft = close_refused(&rt, draft, &mut buffer, draft_note(18, 0))?;
         let draft = put(draft, WORDS[0], &mut buffer)?;
-        let draft = close_refused(&rt, draft, &mut [], 18, 1)?;
+        let draft = close_refused(&rt, draft, &mut [], draft_note(18, 1))?;
         assert!(rt; buffer.as_slice() == ONE_PUT.as_slice());
         let draft = put(draft, WORDS[1], &mut buffer)?;
-        let draft = put_refused(&rt, draft, &Bare::new(1), &mut buffer, 17, 2, Layer::Draft)?;
+        let draft = put_refused(&rt, draft, &Bare::new(1), &mut buffer, draft_note(17, 2))?;
         assert_eq!(rt; draft.words_put(), 2);
         assert!(rt; buffer.as_slice() == BOTH_PUT.as_slice());
         Ok(())
@@ -245,16 +221,14 @@ mod tests {
 
     // A cipher of another mode or tag length: the full draft goes first, the short buffer last.
     fn foreign(rt: &impl Abort, mode: Mode, tag_length: u32) -> Result<(), Fail> {
-        let Ok(other) = ChiLow::new(mode, tag_length) else {
-            return Err(Fail::new("a tag length that fits is refused"));
-        };
+        let other = ChiLow::new(mode, tag_length)?;
         let mut buffer = [0xFF; 19];
         let draft = opened(&mut buffer)?;
-        let draft = put_refused(rt, draft, &other, &mut [], 5, 2, Layer::Cipher)?;
+        let draft = put_refused(rt, draft, &other, &mut [], note(5, 2, Layer::Cipher))?;
         let draft = put(draft, WORDS[0], &mut buffer)?;
         let draft = put(draft, WORDS[1], &mut buffer)?;
-        let draft = put_refused(rt, draft, &other, &mut buffer, 17, 2, Layer::Draft)?;
-        tells_both(rt, closed(draft, &mut buffer)?);
+        let draft = put_refused(rt, draft, &other, &mut buffer, draft_note(17, 2))?;
+        tells_both(rt, draft.close(&mut buffer)?);
         Ok(())
     }
 
@@ -268,11 +242,17 @@ mod tests {
     fn lists(rt: HostRuntime) -> Result<(), Fail> {
         let words = vec![in rt.alloc(); 0; 1_048_576]?;
         let mut buffer = [0xFF; 18];
-        list_refused(&rt, &[], 7, &mut buffer, 15, 0)?;
-        list_refused(&rt, &WORDS, 0, &mut buffer, 15, 0)?;
-        list_refused(&rt, &WORDS, 7, &mut buffer, 16, 19)?;
-        list_refused(&rt, words.as_slice(), 7, &mut buffer, 15, 0)?;
-        list_refused(&rt, &words.as_slice()[1..], 7, &mut buffer, 16, 5_242_884)?;
+        list_refused(&rt, &[], 7, &mut buffer, draft_note(15, 0))?;
+        list_refused(&rt, &WORDS, 0, &mut buffer, draft_note(15, 0))?;
+        list_refused(&rt, &WORDS, 7, &mut buffer, draft_note(16, 19))?;
+        list_refused(&rt, words.as_slice(), 7, &mut buffer, draft_note(15, 0))?;
+        list_refused(
+            &rt,
+            &words.as_slice()[1..],
+            7,
+            &mut buffer,
+            draft_note(16, 5_242_884),
+        )?;
         untouched(&rt, &buffer);
         Ok(())
     }
