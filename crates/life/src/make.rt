@@ -1,4 +1,4 @@
-// Calls that hold no reference, made one by one.
+// Calls that hold no reference, each made by a function.
 ghost use Rattle.std.specs.Prelude.{◌≡◌};
 ghost use Rattle.life.specs.declared.Call.TheVariants.{Load, Fetch, Overwrite};
 

@@ -6,7 +6,10 @@ use Rattle.refusal.specs.declared.Refusal.TheVariants.{PastEnd}
 use Rattle.image.specs.Layout.{Head}
 use Rattle.image.specs.Reading.{head_in, foreign_refusal, or_else, refusal_of}
 use Rattle.shore.specs.Drafting.{KeyedCipher}
+use Rattle.cipher.specs.declared.WordCipher.{Ghosts as WordCipher}
+use Rattle.life.specs.declared.sealed.Sealed.{Sealed}
 use Rattle.life.specs.Coding.{Coding, coding}
+use Rattle.life.specs.Records.{opens}
 use Rattle.life.specs.Checks.{record_opens, foul_from}
 
 abbrev pub coding_of : KeyedCipher → Coding
@@ -26,6 +29,10 @@ shown_refusal c bytes h first n =
     or_else (foreign_refusal c.mode c.tag h)
     (or_else (past_refusal h.count first n)
     (foul_from (opened c bytes h) first n))
+
+-- of an image that was read
+abbrev pub sealed_refusal : {C : Type 0} → WordCipher C → Sealed C → ℕ → ℕ → Option Refusal
+sealed_refusal w s first n = or_else (past_refusal s.header.count first n) (foul_from (opens w s) first n)
 
 -- of any bytes
 abbrev pub page_refusal : KeyedCipher → List ℕ → ℕ → ℕ → Option Refusal

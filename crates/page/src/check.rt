@@ -3,7 +3,7 @@ ghost use Rattle.std.specs.Prelude.{◌≡◌, IfOk};
 ghost use Rattle.std.specs.Result.{result_err};
 ghost use Rattle.shore.specs.Drafting.{keyed_by};
 ghost use Rattle.page.specs.Laws.{RefusedOnlyPastEnd};
-ghost use Rattle.page.specs.Showing.{past_refusal, page_refusal};
+ghost use Rattle.page.specs.Showing.{past_refusal, sealed_refusal, page_refusal};
 
 use cipher::WordCipher;
 use life::sealed::Sealed;
@@ -31,9 +31,20 @@ pub(crate) fn checked<'a, C: WordCipher>(
     ensures image { IfOk result (λ sealed. sealed.image.now ≡ image.now) }
 {
     let sealed = Sealed::read(cipher, image)?;
-    check_end(sealed.header.count(), first, length)?;
-    sealed.check(first..first + length as u32)?;
+    check_shown(&sealed, first, length)?;
     Ok(sealed)
+}
+
+// Whether a page can show records of an image that was read, or the first refusal that fits.
+fn check_shown<C: WordCipher>(
+    sealed: &Sealed<'_, C>,
+    first: u32,
+    length: usize,
+) -> Result<(), Refusal>
+    ensures { result_err result ≡ sealed_refusal C.WordCipher sealed.now first length }
+{
+    check_end(sealed.header.count(), first, length)?;
+    sealed.check(first..first + length as u32)
 }
 
 /// Whether a page of `length` words can show an image from record `first` on, or the first refusal that fits.

@@ -2,13 +2,16 @@
 use Rattle.std.specs.Prelude.{◌≡◌, ℕ, List, length, Ok, Err, Option, Result}
 use Rattle.cipher.specs.declared.WordCipher.{Ghosts as WordCipher}
 use Rattle.memory.specs.declared.Memory.{Ghosts as Memory}
+use Rattle.image.specs.Reading.{or_else}
 use Rattle.refusal.specs.declared.Refusal.{Refusal}
 use Rattle.unit.specs.declared.unit_core.Core.{Core}
 use Rattle.unit.specs.declared.unit.Unit.{Unit}
 use Rattle.unit.specs.Standing.{condition_of, strikes_of, version_in, base_in, count_in}
 use Rattle.life.specs.Coding.{coding}
 pub use Rattle.life.specs.Coding.{suite_of}
-use Rattle.life.specs.Checks.{install_refusal, fetch_row}
+use Rattle.life.specs.declared.sealed.Sealed.{Sealed}
+use Rattle.life.specs.Checks.{stale_refusal, size_refusal, foul_from, install_refusal, fetch_row}
+use Rattle.life.specs.Records.{opens}
 use Rattle.life.specs.State.{CoreState, State, Did, known_by, strikes_left_of}
 use Rattle.life.specs.Life.{Step}
 use Rattle.life.specs.declared.Answer.{Answer}
@@ -33,6 +36,13 @@ state_of c m u = record { core = core_of c u.core; held = m.held u.memory }
 -- the first refusal that fits an image, with so many slots
 abbrev pub install_refusal_by : {C : Type 0} → WordCipher C → Core C → ℕ → List ℕ → Option Refusal
 install_refusal_by c u slots image = install_refusal (coding (suite_of c u.cipher)) (c.key_of u.cipher) (version_in u.program) slots image
+
+-- and that fits an image that was read
+abbrev pub sealed_refusal : {C : Type 0} → WordCipher C → Core C → ℕ → Sealed C → Option Refusal
+sealed_refusal c u slots s =
+    or_else (stale_refusal (version_in u.program) s.header.version)
+    (or_else (size_refusal slots s.header.count)
+    (foul_from (opens c s) 0 s.header.count))
 
 -- the row of a fetch, with those numbers in the slots
 abbrev pub fetch_row_by : {C : Type 0} → WordCipher C → Core C → List ℕ → ℕ → Answer

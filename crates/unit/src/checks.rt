@@ -3,7 +3,7 @@ ghost use Rattle.std.specs.Prelude.{◌≡◌, IfOk};
 ghost use Rattle.std.specs.Result.{result_err};
 ghost use Rattle.image.specs.Reading.{head_in, head_of};
 ghost use Rattle.life.specs.Checks.{stale_refusal, size_refusal};
-ghost use Rattle.unit.specs.View.{install_refusal_by};
+ghost use Rattle.unit.specs.View.{install_refusal_by, sealed_refusal};
 
 use crate::unit_core::Core;
 use cipher::WordCipher;
@@ -38,10 +38,17 @@ impl<C: WordCipher> Core<C> {
         ensures header { IfOk result (λ header. head_of header ≡ head_in image.now) }
     {
         let sealed = Sealed::read(&self.cipher, image)?;
-        let header = sealed.header;
+        self.check_sealed(slots, &sealed)?;
+        Ok(sealed.header)
+    }
+
+    // Whether an image that was read can be installed.
+    fn check_sealed(&self, slots: u32, sealed: &Sealed<'_, C>) -> Result<(), Refusal>
+        ensures { result_err result ≡ sealed_refusal C.WordCipher self.now slots sealed.now }
+    {
+        let header = &sealed.header;
         check_version(self.in_force(), header.version())?;
         check_size(slots, header.count())?;
-        sealed.check(0..header.count())?;
-        Ok(header)
+        sealed.check(0..header.count())
     }
 }

@@ -25,6 +25,7 @@ pub(crate) fn write_records<M: Memory>(memory: &mut M, image: &[u8], header: &He
     ensures after { M.held memory.new ≡ records_in image.now (head_of header.now) ++ drop header.now.count (M.held memory.old) }
     ensures kept { M.rest memory.new ≡ M.rest memory.old }
 {
+    // Stays: a record's number is also its slot's; there is no slice of records to go over.
     for index in 0..header.count() {
         write_record(memory, image, header, index);
     }
