@@ -1,7 +1,6 @@
 // The console: a unit over one chip of 384 bytes, spoken to line by line.
 #![tactic(auto)]
 
-use anyhow::anyhow;
 use chilow::word_cipher::ChiLow;
 use chips::packed::Packed;
 use cipher::Mode;
@@ -16,9 +15,7 @@ fn main(rt: HostRuntime) -> anyhow::Result<()> {
 
 /// A unit with ChiLow-(32+8) over 64 slots that hold zero, and no key.
 fn run(rt: &HostRuntime) -> anyhow::Result<()> {
-    let Ok(cipher) = ChiLow::new(Mode::Tagged, 8) else {
-        return Err(anyhow!("no cipher has that tag length"));
-    };
+    let cipher = ChiLow::new(Mode::Tagged, 8)?;
     let mut chip = [0u8; 384];
     let mut unit = Unit::new(cipher, Packed::new(&mut chip));
     converse(rt, &mut unit)
