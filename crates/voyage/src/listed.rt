@@ -1,7 +1,7 @@
 // The life of a second unit, told by a list of calls.
 ghost use Rattle.std.specs.Prelude.{◌≡◌};
 
-use crate::ashore::{Cargo, KEY};
+use crate::ashore::{Cargo, KEY, record};
 use crate::show::{print_call, print_status};
 use chilow::word_cipher::ChiLow;
 use cipher::WordCipher;
@@ -20,20 +20,22 @@ pub(crate) fn tell_list<M: Memory>(
 ) -> Unit<ChiLow, M>
     ensures { M.rest result.memory ≡ M.rest memory }
 {
-    let seventh = cargo.seventh.bytes();
-    let eighth = cargo.eighth.bytes();
     let calls = [
         Call::fetch(0x1000),
         Call::load(KEY),
         Call::fetch(0x1000),
-        Call::Install { image: eighth },
+        Call::Install {
+            image: &cargo.eighth,
+        },
         Call::fetch(0x1000),
         Call::fetch(0x101C),
-        Call::Install { image: seventh },
+        Call::Install {
+            image: &cargo.seventh,
+        },
         Call::overwrite(11, 0),
         Call::overwrite(10, 0x1_0000_0000_0000),
         Call::overwrite(10, 0xFFFF_FFFF_FFFF),
-        Call::overwrite(2, cargo.eighth.record(3)),
+        Call::overwrite(2, record(&cargo.eighth, 3)),
         Call::fetch(0x1008),
     ];
     let mut answers = [Answer::Done; 12];
@@ -49,9 +51,8 @@ fn print_list<M: Memory>(
     unit: &Unit<ChiLow, M>,
 ) -> anyhow::Result<()> {
     println!(rt; "a second unit, by a list of calls")?;
-    let places = calls.len().min(answers.len());
-    for n in 0..places {
-        print_call(rt, calls[n], answers[n])?;
+    for (call, answer) in calls.iter().zip(answers) {
+        print_call(rt, *call, *answer)?;
     }
     print_status(rt, unit.status())
 }

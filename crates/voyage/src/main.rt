@@ -11,7 +11,8 @@ use ashore::{Cargo, KEY, make_cargo};
 use board::sail;
 use chilow::word_cipher::ChiLow;
 use cipher::{Mode, WordCipher};
-use show::{Told, print_bytes, print_high, print_low};
+use refusal::Refusal;
+use show::print_words;
 
 fn main(rt: HostRuntime) -> anyhow::Result<()> {
     run(&rt)
@@ -35,16 +36,11 @@ fn voyage(
     let cipher = keyed_cipher(mode, tag_length)?;
     let foreign = keyed_cipher(Mode::Tagged, foreign_length)?;
     let cargo = make_cargo(rt, &cipher, &foreign)?;
-    at_sea(rt, new_cipher(mode, tag_length)?, &cargo)
-}
-
-fn new_cipher(mode: Mode, tag_length: u32) -> Result<ChiLow, Told> {
-    let cipher = ChiLow::new(mode, tag_length)?;
-    Ok(cipher)
+    at_sea(rt, ChiLow::new(mode, tag_length)?, &cargo)
 }
 
 /// The cipher ashore, where the key is known.
-fn keyed_cipher(mode: Mode, tag_length: u32) -> Result<ChiLow, Told> {
+fn keyed_cipher(mode: Mode, tag_length: u32) -> Result<ChiLow, Refusal> {
     let mut cipher = ChiLow::new(mode, tag_length)?;
     cipher.load(KEY);
     Ok(cipher)
@@ -57,7 +53,7 @@ fn at_sea(rt: &HostRuntime, cipher: ChiLow, cargo: &Cargo) -> anyhow::Result<()>
     let mut low = [0xCCCCu16; 6];
     sail(rt, cipher, cargo, &mut bytes, &mut high, &mut low)?;
     println!(rt; "the chips, once the unit is gone")?;
-    print_bytes(rt, &bytes)?;
-    print_high(rt, &high)?;
-    print_low(rt, &low)
+    print_words(rt, &bytes, 2)?;
+    print_words(rt, &high, 8)?;
+    print_words(rt, &low, 4)
 }

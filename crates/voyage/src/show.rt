@@ -3,46 +3,9 @@ use cipher::Mode;
 use image::check::read_header;
 use life::{Answer, Call, Status};
 use memory::Memory;
-use refusal::{Layer, Note, Refusal};
-use std::error::Error;
 use std::fmt;
 
-/// A refusal as it is told: its number, place and layer.
-#[derive(Clone, Copy, Debug)]
-pub struct Told {
-    note: Note,
-}
-
-impl fmt::Display for Told {
-    fn fmt<W: fmt::Write>(&self, f: &mut fmt::Formatter<W>) -> fmt::Result {
-        let number = self.note.number;
-        let place = self.note.place;
-        let layer = layer_name(self.note.layer);
-        write!(f, "refused {number} at {place} ({layer})")
-    }
-}
-
-impl Error for Told {}
-
-impl From<Refusal> for Told {
-    fn from(refusal: Refusal) -> Told {
-        Told {
-            note: refusal.note(),
-        }
-    }
-}
-
-fn layer_name(layer: Layer) -> &'static str {
-    match layer {
-        Layer::Image => "image",
-        Layer::Cipher => "cipher",
-        Layer::Memory => "memory",
-        Layer::Unit => "unit",
-        Layer::Draft => "draft",
-        Layer::Console => "console",
-    }
-}
-
+// Stays: Mode is another crate's type, and Display cannot be written for it here.
 fn mode_name(mode: Mode) -> &'static str {
     match mode {
         Mode::Tagged => "tagged",
@@ -78,10 +41,7 @@ pub(crate) fn print_answer(rt: &HostRuntime, answer: Answer) -> anyhow::Result<(
     match answer {
         Answer::Done => println!(rt; "done")?,
         Answer::Instruction(instruction) => println!(rt; "{instruction:08X}")?,
-        Answer::Refused(refusal) => {
-            let told = Told::from(refusal);
-            println!(rt; "{told}")?;
-        }
+        Answer::Refused(refusal) => println!(rt; "{refusal}")?,
     }
     Ok(())
 }
@@ -103,38 +63,23 @@ pub(crate) fn print_slots<M: Memory>(rt: &HostRuntime, memory: &M) -> anyhow::Re
     for slot in 0..memory.slots() {
         match memory.read(slot) {
             Ok(number) => println!(rt; "slot {slot}: {number:012X}")?,
-            Err(refusal) => {
-                let told = Told::from(refusal);
-                println!(rt; "slot {slot}: {told}")?;
-            }
+            Err(refusal) => println!(rt; "slot {slot}: {refusal}")?,
         }
     }
     Ok(())
 }
 
-/// Bytes in hexadecimal, sixteen to a line.
-pub(crate) fn print_bytes(rt: &HostRuntime, bytes: &[u8]) -> anyhow::Result<()> {
-    for line in bytes.chunks(16) {
-        for byte in line {
-            print!(rt; " {byte:02X}")?;
+/// Bytes or words in hexadecimal, each in that many digits, sixteen to a line.
+pub(crate) fn print_words<T: fmt::Radix + Copy>(
+    rt: &HostRuntime,
+    words: &[T],
+    digits: usize,
+) -> anyhow::Result<()> {
+    for line in words.chunks(16) {
+        for word in line {
+            print!(rt; " {word:0digits$X}")?;
         }
         println!(rt)?;
     }
-    Ok(())
-}
-
-pub(crate) fn print_high(rt: &HostRuntime, words: &[u32]) -> anyhow::Result<()> {
-    for word in words {
-        print!(rt; " {word:08X}")?;
-    }
-    println!(rt)?;
-    Ok(())
-}
-
-pub(crate) fn print_low(rt: &HostRuntime, words: &[u16]) -> anyhow::Result<()> {
-    for word in words {
-        print!(rt; " {word:04X}")?;
-    }
-    println!(rt)?;
     Ok(())
 }

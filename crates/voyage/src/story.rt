@@ -1,12 +1,20 @@
 // The life of a unit, told call by call.
 ghost use Rattle.std.specs.Prelude.{◌≡◌};
 
-use crate::ashore::{Cargo, KEY, TO_TEN};
+use crate::ashore::{Cargo, KEY, adding_down_from, record};
 use crate::show::{print_call, print_status};
 use cipher::WordCipher;
 use life::{Answer, Call};
 use memory::Memory;
 use unit::unit::Unit;
+
+/// A step of the story: a call, the status, or a fetch of every address of the program.
+#[derive(Clone, Copy)]
+enum Step<'a> {
+    Perform(Call<'a>),
+    Status,
+    FetchAll,
+}
 
 /// The whole story. Whatever is printed, the memory stands on the same chips as before, and their rest is as before.
 pub(crate) fn tell<C: WordCipher, M: Memory>(
@@ -16,109 +24,115 @@ pub(crate) fn tell<C: WordCipher, M: Memory>(
 ) -> anyhow::Result<()>
     ensures { M.rest unit.new.memory ≡ M.rest unit.old.memory }
 {
-    first_key(rt, unit, cargo)?;
-    no_strikes(rt, unit, cargo)?;
-    stranger(rt, unit, cargo)?;
-    newer_version(rt, unit, cargo)?;
-    four_rejections(rt, unit, cargo)?;
-    new_key(rt, unit, cargo)
+    show_all(rt, unit, "the first key", &first_key(cargo))?;
+    show_all(rt, unit, "refusals that are no strikes", &no_strikes(cargo))?;
+    show_all(rt, unit, "a stranger", &stranger(cargo))?;
+    show_all(rt, unit, "a newer version", &newer_version(cargo))?;
+    show_all(rt, unit, "four rejections", &four_rejections(cargo))?;
+    show_all(rt, unit, "a new key", &new_key(cargo))
 }
 
-fn first_key<C: WordCipher, M: Memory>(
+fn first_key(cargo: &Cargo) -> [Step<'_>; 8] {
+    [
+        Step::Status,
+        fetch(0x1000),
+        load(),
+        load(),
+        fetch(0x1000),
+        install(&cargo.seventh),
+        Step::FetchAll,
+        Step::Status,
+    ]
+}
+
+fn no_strikes(cargo: &Cargo) -> [Step<'_>; 5] {
+    [
+        fetch(0xFFC),
+        fetch(0x1020),
+        fetch(0x1002),
+        install(&cargo.foreign),
+        Step::Status,
+    ]
+}
+
+fn stranger(cargo: &Cargo) -> [Step<'_>; 5] {
+    let old = record(&cargo.seventh, 1);
+    [
+        overwrite(1, old ^ 1),
+        fetch(0x1004),
+        Step::Status,
+        overwrite(1, old),
+        fetch(0x1004),
+    ]
+}
+
+fn newer_version(cargo: &Cargo) -> [Step<'_>; 4] {
+    [
+        install(&cargo.eighth),
+        fetch(0x1000),
+        install(&cargo.seventh),
+        Step::Status,
+    ]
+}
+
+fn four_rejections(cargo: &Cargo) -> [Step<'_>; 8] {
+    [
+        install(&cargo.damaged),
+        Step::Status,
+        overwrite(6, record(&cargo.eighth, 5)),
+        overwrite(9, 0x1234_5678_9ABC),
+        fetch(0x1018),
+        fetch(0x1018),
+        Step::Status,
+        fetch(0x1000),
+    ]
+}
+
+fn new_key(cargo: &Cargo) -> [Step<'_>; 6] {
+    [
+        load(),
+        fetch(0x1000),
+        Step::Status,
+        install(&cargo.seventh),
+        fetch(0x1000),
+        Step::Status,
+    ]
+}
+
+fn load<'a>() -> Step<'a> {
+    Step::Perform(Call::load(KEY))
+}
+
+fn install(image: &[u8]) -> Step<'_> {
+    Step::Perform(Call::Install { image })
+}
+
+fn fetch<'a>(address: u32) -> Step<'a> {
+    Step::Perform(Call::fetch(address))
+}
+
+fn overwrite<'a>(slot: u32, number: u64) -> Step<'a> {
+    Step::Perform(Call::overwrite(slot, number))
+}
+
+/// Takes each step, and shows it.
+fn show_all<C: WordCipher, M: Memory>(
     rt: &HostRuntime,
     unit: &mut Unit<C, M>,
-    cargo: &Cargo,
+    title: &str,
+    steps: &[Step<'_>],
 ) -> anyhow::Result<()>
     ensures { M.rest unit.new.memory ≡ M.rest unit.old.memory }
 {
-    println!(rt; "the first key")?;
-    status(rt, unit)?;
-    fetch(rt, unit, 0x1000)?;
-    load(rt, unit)?;
-    load(rt, unit)?;
-    fetch(rt, unit, 0x1000)?;
-    install(rt, unit, cargo.seventh.bytes())?;
-    fetch_all(rt, unit)?;
-    status(rt, unit)
-}
-
-fn no_strikes<C: WordCipher, M: Memory>(
-    rt: &HostRuntime,
-    unit: &mut Unit<C, M>,
-    cargo: &Cargo,
-) -> anyhow::Result<()>
-    ensures { M.rest unit.new.memory ≡ M.rest unit.old.memory }
-{
-    println!(rt; "refusals that are no strikes")?;
-    fetch(rt, unit, 0xFFC)?;
-    fetch(rt, unit, 0x1020)?;
-    fetch(rt, unit, 0x1002)?;
-    install(rt, unit, cargo.foreign.bytes())?;
-    status(rt, unit)
-}
-
-fn stranger<C: WordCipher, M: Memory>(
-    rt: &HostRuntime,
-    unit: &mut Unit<C, M>,
-    cargo: &Cargo,
-) -> anyhow::Result<()>
-    ensures { M.rest unit.new.memory ≡ M.rest unit.old.memory }
-{
-    println!(rt; "a stranger")?;
-    let old = cargo.seventh.record(1);
-    overwrite(rt, unit, 1, old ^ 1)?;
-    fetch(rt, unit, 0x1004)?;
-    status(rt, unit)?;
-    overwrite(rt, unit, 1, old)?;
-    fetch(rt, unit, 0x1004)
-}
-
-fn newer_version<C: WordCipher, M: Memory>(
-    rt: &HostRuntime,
-    unit: &mut Unit<C, M>,
-    cargo: &Cargo,
-) -> anyhow::Result<()>
-    ensures { M.rest unit.new.memory ≡ M.rest unit.old.memory }
-{
-    println!(rt; "a newer version")?;
-    install(rt, unit, cargo.eighth.bytes())?;
-    fetch(rt, unit, 0x1000)?;
-    install(rt, unit, cargo.seventh.bytes())?;
-    status(rt, unit)
-}
-
-fn four_rejections<C: WordCipher, M: Memory>(
-    rt: &HostRuntime,
-    unit: &mut Unit<C, M>,
-    cargo: &Cargo,
-) -> anyhow::Result<()>
-    ensures { M.rest unit.new.memory ≡ M.rest unit.old.memory }
-{
-    println!(rt; "four rejections")?;
-    install(rt, unit, cargo.damaged.bytes())?;
-    status(rt, unit)?;
-    overwrite(rt, unit, 6, cargo.eighth.record(5))?;
-    overwrite(rt, unit, 9, 0x1234_5678_9ABC)?;
-    fetch(rt, unit, 0x1018)?;
-    fetch(rt, unit, 0x1018)?;
-    status(rt, unit)?;
-    fetch(rt, unit, 0x1000)
-}
-
-fn new_key<C: WordCipher, M: Memory>(
-    rt: &HostRuntime,
-    unit: &mut Unit<C, M>,
-    cargo: &Cargo,
-) -> anyhow::Result<()>
-    ensures { M.rest unit.new.memory ≡ M.rest unit.old.memory }
-{
-    println!(rt; "a new key")?;
-    load(rt, unit)?;
-    fetch(rt, unit, 0x1000)?;
-    status(rt, unit)?;
-    install(rt, unit, cargo.seventh.bytes())?;
-    fetch(rt, unit, 0x1000)?;
-    status(rt, unit)
+    println!(rt; "{title}")?;
+    for step in steps {
+        match *step {
+            Step::Perform(call) => print_call(rt, call, unit.perform(call))?,
+            Step::Status => print_status(rt, unit.status())?,
+            Step::FetchAll => fetch_all(rt, unit)?,
+        }
+    }
+    Ok(())
 }
 
 /// Fetches every address of the program.
@@ -129,66 +143,14 @@ fn fetch_all<C: WordCipher, M: Memory>(
     ensures { M.rest unit.new.memory ≡ M.rest unit.old.memory }
 {
     let mut same = 0u32;
-    for index in 0u32..8 {
-        let address = 0x1000 + 4 * index;
+    for (index, instruction) in adding_down_from(10).iter().enumerate() {
+        let address = 0x1000 + 4 * index as u32;
         let answer = unit.fetch(address);
         print_call(rt, Call::fetch(address), answer)?;
-        if is_instruction(answer, TO_TEN[index as usize]) {
+        if answer == Answer::Instruction(*instruction) {
             same = same.saturating_add(1);
         }
     }
     println!(rt; "{same} of 8 as put in")?;
     Ok(())
-}
-
-fn is_instruction(answer: Answer, instruction: u32) -> bool {
-    match answer {
-        Answer::Instruction(fetched) => fetched == instruction,
-        Answer::Done | Answer::Refused(_) => false,
-    }
-}
-
-fn load<C: WordCipher, M: Memory>(rt: &HostRuntime, unit: &mut Unit<C, M>) -> anyhow::Result<()>
-    ensures { M.rest unit.new.memory ≡ M.rest unit.old.memory }
-{
-    let answer = unit.load(KEY);
-    print_call(rt, Call::load(KEY), answer)
-}
-
-fn install<C: WordCipher, M: Memory>(
-    rt: &HostRuntime,
-    unit: &mut Unit<C, M>,
-    image: &[u8],
-) -> anyhow::Result<()>
-    ensures { M.rest unit.new.memory ≡ M.rest unit.old.memory }
-{
-    let answer = unit.install(image);
-    print_call(rt, Call::Install { image }, answer)
-}
-
-fn fetch<C: WordCipher, M: Memory>(
-    rt: &HostRuntime,
-    unit: &mut Unit<C, M>,
-    address: u32,
-) -> anyhow::Result<()>
-    ensures { M.rest unit.new.memory ≡ M.rest unit.old.memory }
-{
-    let answer = unit.fetch(address);
-    print_call(rt, Call::fetch(address), answer)
-}
-
-fn overwrite<C: WordCipher, M: Memory>(
-    rt: &HostRuntime,
-    unit: &mut Unit<C, M>,
-    slot: u32,
-    number: u64,
-) -> anyhow::Result<()>
-    ensures { M.rest unit.new.memory ≡ M.rest unit.old.memory }
-{
-    let answer = unit.overwrite(slot, number);
-    print_call(rt, Call::overwrite(slot, number), answer)
-}
-
-fn status<C: WordCipher, M: Memory>(rt: &HostRuntime, unit: &Unit<C, M>) -> anyhow::Result<()> {
-    print_status(rt, unit.status())
 }
