@@ -23,6 +23,8 @@ pub struct Board<'a> {
 
 /// Both lives over the chips, which come back whatever is told: the very loans, with their left-over bytes and surplus
 /// words.
+// Stays: the chips go in one by one. With a Board that goes in by value this call is proved, but of its caller's buffers
+// nothing is known any more once the loans are over.
 fn lend<'a>(
     rt: &HostRuntime,
     cipher: ChiLow,
