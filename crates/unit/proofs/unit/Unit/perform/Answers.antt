@@ -8,4 +8,4 @@ returns-clause-life g c =
     let M = g.M.Memory in
     let cipher = c.args.self.now.core.cipher in
     step (suite_of C cipher) (g.met.C.WordCipher.lawful cipher) (g.met.C.WordCipher.fitting cipher)
-    (state_of C M c.args.self.now) (g.met.C.WordCipher.keyed cipher) (M.sound c.args.self.now.memory) _ _ _ _ c.decide.ensures.machine
+    (state_of C M c.args.self.now) (g.met.C.WordCipher.keyed cipher) (g.met.M.Memory.sound c.args.self.now.memory) _ _ _ _ c.decide.ensures.machine
