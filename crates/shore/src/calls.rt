@@ -26,9 +26,9 @@ impl Draft {
         if version == 0 {
             return Err(Refusal::BadDraft);
         }
-        let header = Header::new(cipher.mode(), cipher.tag_length(), version, base, count).ok_or(
-            Refusal::BadDraft,
-        )?;
+        let mode = cipher.mode();
+        let tag_length = cipher.tag_length();
+        let header = Header::new(mode, tag_length, version, base, count).ok_or(Refusal::BadDraft)?;
         check_room(&header, buffer)?;
         write_header(&header, buffer);
         Ok(Draft { header, put: 0 })
@@ -52,7 +52,8 @@ impl Draft {
         }
         let header = self.header;
         let put = self.put;
-        let stored = stored_word(cipher, &header, put, instruction);
+        let address = 4 * (header.base() + put);
+        let stored = cipher.encrypt(tweak_of(header.version(), address), instruction);
         write_record(&header, put, stored, buffer);
         Ok(Draft {
             header,
@@ -122,13 +123,4 @@ fn check_room(header: &Header, buffer: &[u8]) -> Result<(), Refusal>
     } else {
         Ok(())
     }
-}
-
-// The stored number of the instruction of a place.
-fn stored_word<C: WordCipher>(cipher: &C, header: &Header, index: u32, instruction: u32) -> u64
-    requires { index < header.now.count }
-    ensures { result ≡ encryption (keyed_by C.WordCipher cipher.now) header.now.version (header.now.base + index) instruction }
-{
-    let address = 4 * (header.base() + index);
-    cipher.encrypt(tweak_of(header.version(), address), instruction)
 }
