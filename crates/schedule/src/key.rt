@@ -78,7 +78,7 @@ fn key_round(mode: Mode, i: u32, state: u128) -> u128
     requires { i < 7 }
     ensures { result ≡ key_round mode i state }
 {
-    let added = state ^ ((round_constant(mode, i) as u128) << 96);
+    let added = state ^ (u128::from(round_constant(mode, i)) << 96);
     apply(LinearMap::Key128, chi_chi(Width::W128, added))
 }
 

@@ -52,9 +52,9 @@ fn mask(i: usize, state: u64) -> u64
     ensures { result ≡ mask_of i state }
 {
     let turned = if i < 7 {
-        chi_chi(Width::W64, state as u128)
+        chi_chi(Width::W64, u128::from(state))
     } else {
-        state as u128
+        u128::from(state)
     };
     apply(LinearMap::Tweak64, turned) as u64
 }
