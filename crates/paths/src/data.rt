@@ -1,12 +1,9 @@
 // The data path, from its whitened state and the masks of the tweak schedule.
 ghost use Rattle.std.specs.Prelude.{◌≡◌, slice_index};
 ghost use Rattle.schedule.specs.Schedule.{table};
-ghost use Rattle.paths.specs.Paths.{chi, mixed};
 ghost use Rattle.paths.specs.Data.{data_round, data_after};
 
 use crate::path::Path;
-use layers::nonlinear::chi_chi;
-use linear::apply;
 
 /// The data state at first, a whitened `x`, and after each of the eight rounds.
 #[tactic(auto, using(schedule::proofs::Tables::tables), unfolding(crate::specs::Data::data_after))]
@@ -24,21 +21,9 @@ fn data_round(path: Path, i: usize, state: u64, mask: u64) -> u64
     ensures { result ≡ data_round path i state mask }
 {
     let turned = if i < 7 {
-        mixed(path, state)
+        path.mixed(state)
     } else {
-        chi(path, state)
+        path.chi(state)
     };
     turned ^ path.taken(mask)
-}
-
-fn chi(path: Path, x: u64) -> u64
-    ensures { result ≡ chi path x }
-{
-    chi_chi(path.width(), x as u128) as u64
-}
-
-fn mixed(path: Path, x: u64) -> u64
-    ensures { result ≡ mixed path x }
-{
-    apply(path.linear_map(), chi(path, x) as u128) as u64
 }

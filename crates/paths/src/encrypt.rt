@@ -1,15 +1,11 @@
 // Encryption of a block: the data path run backward over the same masks.
 ghost use Rattle.std.specs.Prelude.{◌≡◌, ◌^◌, ◌<◌, slice_index};
-ghost use Rattle.layers.specs.Inverse.{chichi⁻¹};
 ghost use Rattle.linear.specs.Linear.{inverse_of};
-ghost use Rattle.layers.specs.Widths.{half};
 ghost use Rattle.paths.specs.Encryption.{data_path, data_map, width, undo_round, data_before, source, EncryptionUndoes, EncryptionUndone};
-ghost use Rattle.paths.specs.Paths.{width_of};
 
 use crate::path::Path;
 use crate::schedules::Schedules;
 use cipher::Mode;
-use layers::nonlinear::chi_chi_inverse;
 use linear::{DataMap, apply_inverse};
 
 impl Schedules {
@@ -41,7 +37,7 @@ fn undo_round(mode: Mode, i: usize, y: u64, mask: u64) -> u64
     let path = data_path(mode);
     let taken = y ^ path.taken(mask);
     let spread = if i < 7 { unmapped(mode, taken) } else { taken };
-    unturned(path, spread)
+    path.chi_inverse(spread)
 }
 
 fn data_path(mode: Mode) -> Path
@@ -65,11 +61,5 @@ fn data_map(mode: Mode) -> DataMap
 fn unmapped(mode: Mode, x: u64) -> u64
     ensures { result ≡ inverse_of (data_map mode) x }
 {
-    apply_inverse(data_map(mode), x as u128) as u64
-}
-
-fn unturned(path: Path, x: u64) -> u64
-    ensures { result ≡ chichi⁻¹ (half (width_of path)) x }
-{
-    chi_chi_inverse(path.width(), x as u128) as u64
+    apply_inverse(data_map(mode), u128::from(x)) as u64
 }
