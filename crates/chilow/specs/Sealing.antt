@@ -16,14 +16,14 @@ use Rattle.paths.specs.declared.path.Path.TheVariants.{Data32, Tag32, Data40}
 use Rattle.paths.specs.Algorithm.{decryption}
 use Rattle.paths.specs.Encryption.{encryption, source}
 use Rattle.paths.specs.Paths.{width_of}
-use Rattle.paths.specs.Data.{schedules, outcome}
+use Rattle.paths.specs.Data.{schedules}
 use Rattle.paths.proofs.Rows.{schedules_decrypt, outcome_lt}
 use Rattle.paths.proofs.Undoing.{encryption_undoes, encryption_undone, encryption_lt}
-use Rattle.chilow.specs.Words.{stored_by, opened_by, chilow, opened}
+use Rattle.chilow.specs.Words.{run, stored_by, opened_by, chilow, opened}
 
 -- ---- by schedules made ahead, or by the key
 pub opened_by_lem : (m : Mode) (k τ t s : ℕ)
-    → opened_by (λ p x. outcome p (schedules m k t) x) m τ s ≡ opened k m τ t s
+    → opened_by (run (schedules m k t)) m τ s ≡ opened k m τ t s
 unfolding opened
 opened_by_lem Tagged k τ t s =
     ap₂ (λ (a b : ℕ). cond (nat_lt s (2 ^ (32 + τ)) && part a 0 τ == s % 2 ^ τ) (Some b) None)
@@ -32,7 +32,7 @@ opened_by_lem Block k τ t s =
     ap (λ (a : ℕ). cond (nat_lt s (2 ^ (32 + τ)) && part a 32 8 == 0) (Some (part a 0 32)) None) (schedules_decrypt Data40 k t s)
 
 pub stored_by_lem : (m : Mode) (k τ t i : ℕ)
-    → stored_by (source m (schedules m k t)) (λ p x. outcome p (schedules m k t) x) m τ i
+    → stored_by (source m (schedules m k t)) (run (schedules m k t)) m τ i
     ≡ chilow k m τ t i
 unfolding chilow encryption
 stored_by_lem Tagged k τ t i =

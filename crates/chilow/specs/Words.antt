@@ -7,7 +7,13 @@ use Rattle.cipher.specs.Word.{Rule}
 use Rattle.paths.specs.declared.path.Path.{Path}
 use Rattle.paths.specs.declared.path.Path.TheVariants.{Data32, Tag32, Data40}
 use Rattle.paths.specs.Algorithm.{decryption}
+use Rattle.paths.specs.declared.schedules.Schedules.{Schedules}
+use Rattle.paths.specs.Data.{outcome}
 use Rattle.paths.specs.Encryption.{encryption}
+
+-- what path p makes of x, by the schedules s
+abbrev pub run : Schedules → Path → ℕ → ℕ
+run s p x = outcome p s x
 
 -- with seal i the block that decrypts to i, and run p x the decryption of x on path p:
 -- ciphertext and tag side by side, or the block

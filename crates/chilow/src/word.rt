@@ -6,7 +6,7 @@ ghost use Rattle.cipher.specs.declared.Mode.TheVariants.{Tagged, Block};
 ghost use Rattle.paths.specs.declared.path.Path.TheVariants.{Data32, Tag32, Data40};
 ghost use Rattle.paths.specs.Encryption.{width, source};
 ghost use Rattle.paths.specs.Data.{outcome};
-ghost use Rattle.chilow.specs.Words.{stored_by, opened_by};
+ghost use Rattle.chilow.specs.Words.{run, stored_by, opened_by};
 
 use bits::part_of;
 use cipher::Mode;
@@ -27,7 +27,7 @@ pub(crate) struct Tweaked {
 impl Tweaked {
     // What a stored number opens to.
     pub(crate) fn open(&self, stored: u64) -> Option<u32>
-        ensures { result ≡ opened_by (λ p x. outcome p self.now.schedules x) self.now.mode self.now.tag_bits stored }
+        ensures { result ≡ opened_by (run self.now.schedules) self.now.mode self.now.tag_bits stored }
     {
         if stored >= 1 << (32 + self.tag_bits) {
             return None;
@@ -40,9 +40,9 @@ impl Tweaked {
 
     // The stored number of an instruction.
     pub(crate) fn store(&self, instruction: u32) -> u64
-        ensures { result ≡ stored_by (source self.now.mode self.now.schedules) (λ p x. outcome p self.now.schedules x) self.now.mode self.now.tag_bits instruction }
+        ensures { result ≡ stored_by (source self.now.mode self.now.schedules) (run self.now.schedules) self.now.mode self.now.tag_bits instruction }
     {
-        let block = self.schedules.encrypt(self.mode, instruction as u64);
+        let block = self.schedules.encrypt(self.mode, u64::from(instruction));
         match self.mode {
             Mode::Tagged => self.with_tag(block),
             Mode::Block => block,
@@ -50,25 +50,19 @@ impl Tweaked {
     }
 
     fn open_tagged(&self, stored: u64) -> Option<u32>
-        ensures { stored < 2 ^ (32 + self.now.tag_bits) → result ≡ opened_by (λ p x. outcome p self.now.schedules x) Tagged self.now.tag_bits stored }
+        ensures { stored < 2 ^ (32 + self.now.tag_bits) → result ≡ opened_by (run self.now.schedules) Tagged self.now.tag_bits stored }
     {
         let ciphertext = stored >> self.tag_bits;
-        if self.tag_of(ciphertext) == stored % (1 << self.tag_bits) {
-            Some(self.schedules.decrypt(Path::Data32, ciphertext) as u32)
-        } else {
-            None
-        }
+        (self.tag_of(ciphertext) == stored % (1 << self.tag_bits)).then(|| self
+            .schedules
+            .decrypt(Path::Data32, ciphertext) as u32)
     }
 
     fn open_block(&self, stored: u64) -> Option<u32>
-        ensures { stored < 2 ^ (32 + self.now.tag_bits) → result ≡ opened_by (λ p x. outcome p self.now.schedules x) Block self.now.tag_bits stored }
+        ensures { stored < 2 ^ (32 + self.now.tag_bits) → result ≡ opened_by (run self.now.schedules) Block self.now.tag_bits stored }
     {
-        let block = self.schedules.decrypt(Path::Data40, stored) as u128;
-        if part_of(block, 32, 8) == 0 {
-            Some(part_of(block, 0, 32) as u32)
-        } else {
-            None
-        }
+        let block = u128::from(self.schedules.decrypt(Path::Data40, stored));
+        (part_of(block, 32, 8) == 0).then_some(part_of(block, 0, 32) as u32)
     }
 
     // A ciphertext, and its tag beside it.
@@ -84,6 +78,6 @@ impl Tweaked {
         ensures { result ≡ part (outcome Tag32 self.now.schedules ciphertext) 0 self.now.tag_bits }
     {
         let state = self.schedules.decrypt(Path::Tag32, ciphertext);
-        part_of(state as u128, 0, self.tag_bits) as u64
+        part_of(u128::from(state), 0, self.tag_bits) as u64
     }
 }
