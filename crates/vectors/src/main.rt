@@ -49,13 +49,18 @@ fn run(rt: &HostRuntime) -> anyhow::Result<()> {
 fn tagged_states(tweak: u64) -> [[u128; 4]; 10] {
     let data = trace_of(Path::Data32, KEY, tweak, CIPHERTEXT);
     let tag = trace_of(Path::Tag32, KEY, tweak, CIPHERTEXT);
-    let input = [CIPHERTEXT as u128, CIPHERTEXT as u128, tweak as u128, KEY];
+    let input = [
+        u128::from(CIPHERTEXT),
+        u128::from(CIPHERTEXT),
+        u128::from(tweak),
+        KEY,
+    ];
     let mut states = [input; 10];
     for (row, (data, tag)) in states[1..].iter_mut().zip(data.iter().zip(&tag)) {
         *row = [
-            data.block as u128,
-            tag.block as u128,
-            data.tweak as u128,
+            u128::from(data.block),
+            u128::from(tag.block),
+            u128::from(data.tweak),
             data.key,
         ];
     }
@@ -64,9 +69,9 @@ fn tagged_states(tweak: u64) -> [[u128; 4]; 10] {
 
 fn block_states(tweak: u64) -> [[u128; 3]; 10] {
     let data = trace_of(Path::Data40, KEY, tweak, CIPHER_BLOCK);
-    let mut states = [[CIPHER_BLOCK as u128, tweak as u128, KEY]; 10];
+    let mut states = [[u128::from(CIPHER_BLOCK), u128::from(tweak), KEY]; 10];
     for (row, state) in states[1..].iter_mut().zip(&data) {
-        *row = [state.block as u128, state.tweak as u128, state.key];
+        *row = [u128::from(state.block), u128::from(state.tweak), state.key];
     }
     states
 }

@@ -12,47 +12,25 @@ pub(crate) fn print_words(rt: &HostRuntime, key: u128, tweak: u64) -> anyhow::Re
         "stored words: instruction, stored, opened again, with bit 0 flipped, with a surplus bit"
     )?;
     for tag_length in 8..=16 {
-        print_word(rt, Mode::Tagged, tag_length, key, tweak, PLAINTEXT)?;
+        let cipher = ChiLow::keyed(Mode::Tagged, tag_length, key)?;
+        print_word(rt, &cipher, tweak, PLAINTEXT)?;
     }
-    print_word(rt, Mode::Block, 8, key, tweak, BLOCK_PLAINTEXT)
+    let cipher = ChiLow::keyed(Mode::Block, 8, key)?;
+    print_word(rt, &cipher, tweak, BLOCK_PLAINTEXT)
 }
 
-fn print_word(
-    rt: &HostRuntime,
-    mode: Mode,
-    tag_length: u32,
-    key: u128,
-    tweak: u64,
-    instruction: u32,
-) -> anyhow::Result<()> {
-    let name = match mode {
-        Mode::Tagged => "ChiLow-(32+t)",
-        Mode::Block => "ChiLow-40",
-    };
-    match ChiLow::new(mode, tag_length) {
-        Ok(mut cipher) => {
-            cipher.load(key);
-            print!(rt; "{name:<13} t {tag_length:>2} ")?;
-            print_life(rt, &cipher, tweak, instruction)
-        }
-        Err(refusal) => {
-            let number = refusal.note().number;
-            println!(rt; "{name} t {tag_length}: refused with {number}")?;
-            Ok(())
-        }
-    }
-}
-
-fn print_life<C: WordCipher>(
+fn print_word<C: WordCipher>(
     rt: &HostRuntime,
     cipher: &C,
     tweak: u64,
     instruction: u32,
 ) -> anyhow::Result<()> {
+    let name = name_of(cipher.mode());
+    let tag_length = cipher.tag_length();
     let stored = cipher.encrypt(tweak, instruction);
-    let bits = 32 + cipher.tag_length().min(16);
+    let bits = 32 + tag_length.min(16);
     let digits = bits.div_ceil(4) as usize;
-    print!(rt; "{instruction:08X} {stored:0digits$X}")?;
+    print!(rt; "{name:<13} t {tag_length:>2} {instruction:08X} {stored:0digits$X}")?;
     match round_trip(cipher, tweak, instruction) {
         Some(again) => print!(rt; " {again:08X}")?,
         None => print!(rt; " rejected")?,
@@ -61,6 +39,13 @@ fn print_life<C: WordCipher>(
     let surplus = verdict(genuine(cipher, tweak, stored | (1u64 << bits)));
     println!(rt; " {flipped} {surplus}")?;
     Ok(())
+}
+
+fn name_of(mode: Mode) -> &'static str {
+    match mode {
+        Mode::Tagged => "ChiLow-(32+t)",
+        Mode::Block => "ChiLow-40",
+    }
 }
 
 fn verdict(is_genuine: bool) -> &'static str {
