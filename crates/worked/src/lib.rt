@@ -25,15 +25,16 @@ pub fn worked_values() -> [u128; 10]
     computed()
 }
 
+// Stays: beside its caller; in one function, the proof names the facts of each call by hand, which is no plainer.
 fn computed() -> [u128; 10]
     ensures { result ≡ defined }
 {
     let data = trace_of(Path::Data32, KEY, TWEAK, CIPHERTEXT);
     let tag = trace_of(Path::Tag32, KEY, TWEAK, CIPHERTEXT);
     [
-        data[0].block as u128,
-        tag[0].block as u128,
-        data[0].tweak as u128,
+        u128::from(data[0].block),
+        u128::from(tag[0].block),
+        u128::from(data[0].tweak),
         chi_chi(Width::W32, 0x7777_7777),
         chi_chi(Width::W32, 0xFFFF_FFFF),
         chi_chi(Width::W64, 0x7777_7777_7777_7777),
