@@ -9,6 +9,7 @@ use refusal::Refusal;
 pub mod bounds;
 
 /// A memory of numbered slots, each a number below 2^48.
+// Stays: a slot and a number are no pair: a slot is read alone too, and each function would take it apart at once.
 pub trait Memory {
     /// The number in each slot.
     ghost held: { Self → List ℕ };

@@ -27,6 +27,7 @@ pub fn put_packed<'a>(chip: &'a mut [u8], slot: u32, number: u64) -> &'a mut [u8
 }
 
 /// The same of the caller's own buffer, once nothing is lent any more.
+// Stays: this and the other `_after` are calls of their own; what a lent buffer holds is known after one call takes it.
 pub fn packed_after(buffer: &mut [u8], slot: u32, number: u64)
     ensures { buffer.new ≡ bytes_of (after_write (packed_slots buffer.old) slot number) (left_over buffer.old) }
 {
@@ -95,7 +96,8 @@ pub struct Board<'a> {
 }
 
 /// A board's chips after a write to their joined memory.
-// Stays: what the buffers hold is known after one call that takes them, not after one on a `Board` of them (tried: by value, in one expression, by `&mut`).
+// Stays: what the buffers hold is known after one call that takes them, not after one on a `Board` of them (tried: by
+// value, in one expression, by `&mut`).
 fn put_board<'a>(
     bytes: &'a mut [u8],
     high: &'a mut [u32],

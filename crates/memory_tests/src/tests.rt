@@ -12,7 +12,7 @@ const WIDEST: u64 = 0xffff_ffff_ffff;
 
 // A number for each slot, with all six bytes in use.
 fn number_for(slot: u32) -> u64 {
-    (slot as u64 % 0x1_0000 + 1) * 0x1_0305_070b % 0x1_0000_0000_0000
+    (u64::from(slot) % 0x1_0000 + 1) * 0x1_0305_070b % 0x1_0000_0000_0000
 }
 
 // What a refusal of a memory tells.
@@ -130,58 +130,91 @@ fn paired_of_each_size(rt: HostRuntime) {
 }
 
 // Bytes of three chips, words of a pair, and the slots of both nestings.
-const NESTED: [(usize, usize, usize, usize, u32, u32); 5] = [
-    (0, 0, 0, 0, 0, 0),
-    (13, 6, 24, 9, 12, 8),
-    (6, 6, 6, 1, 3, 2),
-    (40, 5, 31, 7, 16, 12),
-    (0, 64, 64, 16, 32, 32),
+#[derive(Clone, Copy)]
+struct Nested {
+    bytes: [usize; 3],
+    words: usize,
+    joined: u32,
+    interleaved: u32,
+}
+
+const NESTED: [Nested; 5] = [
+    Nested {
+        bytes: [0, 0, 0],
+        words: 0,
+        joined: 0,
+        interleaved: 0,
+    },
+    Nested {
+        bytes: [13, 6, 24],
+        words: 9,
+        joined: 12,
+        interleaved: 8,
+    },
+    Nested {
+        bytes: [6, 6, 6],
+        words: 1,
+        joined: 3,
+        interleaved: 2,
+    },
+    Nested {
+        bytes: [40, 5, 31],
+        words: 7,
+        joined: 16,
+        interleaved: 12,
+    },
+    Nested {
+        bytes: [0, 64, 64],
+        words: 16,
+        joined: 32,
+        interleaved: 32,
+    },
 ];
 
-// Lends chips of each row's sizes, and says how many slots both nestings have.
+// Lends chips of each row's sizes, with the row.
 fn lend_all<F>(rt: &impl Abort, nest: F)
 where
-    F: Fn(&mut [u8], &mut [u8], &mut [u8], &mut [u32], &mut [u16], (u32, u32)),
+    F: Fn(&mut [u8], &mut [u8], &mut [u8], &mut [u32], &mut [u16], Nested),
     requires { F.IsAlwaysCallable nest }
 {
-    for (one, two, three, words, joined, interleaved) in NESTED {
+    for nested in NESTED {
+        let [one, two, three] = nested.bytes;
         let mut a = [0xffu8; 64];
         let mut b = [0xffu8; 64];
         let mut c = [0xffu8; 64];
         let mut high = [0xffff_ffffu32; 16];
         let mut low = [0xffffu16; 17];
         assert!(rt; one <= 64 && two <= 64);
-        assert!(rt; three <= 64 && words <= 16);
-        let slots = (joined, interleaved);
+        assert!(rt; three <= 64 && nested.words <= 16);
         nest(
             &mut a[0..one],
             &mut b[0..two],
             &mut c[0..three],
-            &mut high[0..words],
+            &mut high[0..nested.words],
             &mut low,
-            slots,
+            nested,
         );
     }
 }
 
 #[test]
 fn joined_three_deep(rt: HostRuntime) {
-    lend_all(&rt, |a, b, c, high, low, (slots, _)| {
+    lend_all(&rt, |a, b, c, high, low, nested| {
         let inner = Joined::new(Packed::new(b), Packed::new(c));
         let middle = Interleaved::new(inner, Paired::new(high, low));
-        exercise(&rt, &mut Joined::new(Packed::new(a), middle), slots);
+        exercise(&rt, &mut Joined::new(Packed::new(a), middle), nested.joined);
     });
 }
 
 #[test]
 fn interleaved_three_deep(rt: HostRuntime) {
-    lend_all(&rt, |a, b, c, high, low, (_, slots)| {
+    lend_all(&rt, |a, b, c, high, low, nested| {
         let inner = Interleaved::new(Packed::new(b), Packed::new(c));
         let middle = Joined::new(inner, Packed::new(a));
         exercise(
             &rt,
             &mut Interleaved::new(Paired::new(high, low), middle),
-            slots,
+            nested.interleaved,
         );
     });
 }
