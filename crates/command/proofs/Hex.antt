@@ -1,8 +1,7 @@
 -- The numbers and the bytes of words.
-use Rattle.std.proofs.Common.{◌≡◌, ℕ, ◌+◌, ◌*◌, ◌^◌, ◌<◌, ◌≤◌, List, [], ◌∷◌, ◌++◌, length, length-append, length-drop, get_or, take, drop, set, sym, refl, ap, ◌∙◌, pow-suc, add-one, arith, lit<, drop-drop, drop-set-lt, take-suc-set}
+use Rattle.std.proofs.Common.{◌≡◌, ℕ, ◌+◌, ◌*◌, ◌^◌, ◌<◌, ◌≤◌, List, [], ◌∷◌, ◌++◌, length, length-append, length-drop, get_or, take, drop, set, sym, refl, ap, ◌∙◌, pow-suc, add-one, arith, drop-drop, drop-set-lt, take-suc-set}
 use Rattle.std.proofs.Math.Seq.{drop-append_seam}
 use Rattle.std.proofs.lemmas.List.{get_or-drop, get_or_append_left}
-use native.Mathlib.Nat.{pow-le-pow_right}
 use Rattle.command.specs.Digits.{digit_of, hex_of, byte_of, bytes_up_to}
 
 pub hex_more : (word : List ℕ) (n : ℕ) → hex_of word (n + 1) ≡ 16 * hex_of word n + digit_of (get_or word n 0)
@@ -26,9 +25,6 @@ pub hex_small : (v d n : ℕ) → v < 16 ^ n → d < 16 → 16 * v + d < 16 ^ (n
 hex_small v d n h l =
     let e : 16 ^ (n + 1) ≡ 16 ^ n * 16 = ap (λ (k : ℕ). 16 ^ k) (add-one n) ∙ pow-suc 16 n in
     omega arith
-
-pub hex_mono : (m n : ℕ) → m ≤ n → 16 ^ m ≤ 16 ^ n
-hex_mono m n h = pow-le-pow_right (let z : 0 < 16 = lit< tt in z) h
 
 -- one byte more is written
 pub put_more : (word b : List ℕ) (n m i v : ℕ) → m ≡ n + 1 → i ≡ n → n < length b → v ≡ byte_of word n → take n b ≡ bytes_up_to word n

@@ -3,6 +3,7 @@ ghost use Rattle.std.specs.Prelude.{◌≡◌, ◌/◌, ◌^◌, ◌<◌, ◌≤
 ghost use Rattle.command.specs.Digits.{is_digit, digit_of, value_of, byte_of, bytes_of};
 
 /// Whether a byte is a digit: 0 to 9, or A to F.
+// Stays: `is_ascii_hexdigit` and `to_digit` take a to f too, so neither is plainer with the test that rules those out.
 pub fn is_digit(byte: u8) -> bool
     ensures { result ≡ is_digit byte }
 {

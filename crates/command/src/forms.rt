@@ -43,8 +43,8 @@ impl Form {
         self as u8
     }
 
-    // Stays: no struct of a form's shape, since its columns for the even lengths of I and the second space of W would be empty in every other row.
     // The most bytes of a line of this form.
+    // Stays: no struct of a form's shape; columns for I's even lengths and W's second space would be empty elsewhere.
     fn most(self) -> usize
         ensures { result ≡ most_of self }
     {

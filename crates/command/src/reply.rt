@@ -43,7 +43,7 @@ pub fn share_of(installed: u32, slots: u32) -> u64
     if slots == 0 {
         0
     } else {
-        1000 * installed as u64 / slots as u64
+        1000 * u64::from(installed) / u64::from(slots)
     }
 }
 
