@@ -24,7 +24,7 @@ pub struct Board<'a> {
 /// Both lives over the chips, which come back whatever is told: the very loans, with their left-over bytes and surplus
 /// words.
 // Stays: the chips go in one by one. With a Board that goes in by value this call is proved, but of its caller's buffers
-// nothing is known any more once the loans are over.
+// nothing is known any more once the loans are over. So too with what is told in a pair with the Board.
 fn lend<'a>(
     rt: &HostRuntime,
     cipher: ChiLow,
@@ -40,7 +40,8 @@ fn lend<'a>(
     ensures lows { surplus_low result.high.now result.low.now ≡ surplus_low high.old low.old }
 {
     let memory = Joined::new(Packed::new(bytes), Paired::new(high, low));
-    let memory = both_lives(rt, cipher, memory, cargo, told);
+    let (memory, result) = both_lives(rt, cipher, memory, cargo);
+    *told = result;
     let (one, two) = memory.into_parts();
     let bytes = one.into_chip();
     let (high, low) = two.into_chips();
@@ -53,22 +54,16 @@ fn both_lives<M: Memory>(
     cipher: ChiLow,
     memory: M,
     cargo: &Cargo,
-    told: &mut anyhow::Result<()>,
-) -> M
-    ensures { M.rest result ≡ M.rest memory }
+) -> (M, anyhow::Result<()>)
+    ensures { M.rest result.0 ≡ M.rest memory }
 {
     let mut unit = Unit::new(cipher, memory);
-    *told = tell(rt, &mut unit, cargo);
+    let told = tell(rt, &mut unit, cargo);
     let (cipher, memory) = unit.into_parts();
-    if told.is_ok() {
-        *told = between(rt, &memory);
+    match told.and_then(|()| between(rt, &memory)) {
+        Ok(()) => tell_list(rt, cipher, memory, cargo),
+        Err(error) => (memory, Err(error)),
     }
-    if told.is_err() {
-        return memory;
-    }
-    let second = tell_list(rt, cipher, memory, cargo, told);
-    let (_, memory) = second.into_parts();
-    memory
 }
 
 fn between<M: Memory>(rt: &HostRuntime, memory: &M) -> anyhow::Result<()> {

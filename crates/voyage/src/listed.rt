@@ -16,9 +16,8 @@ pub(crate) fn tell_list<M: Memory>(
     cipher: ChiLow,
     memory: M,
     cargo: &Cargo,
-    told: &mut anyhow::Result<()>,
-) -> Unit<ChiLow, M>
-    ensures { M.rest result.memory ≡ M.rest memory }
+) -> (M, anyhow::Result<()>)
+    ensures { M.rest result.0 ≡ M.rest memory }
 {
     let calls = [
         Call::fetch(0x1000),
@@ -40,8 +39,9 @@ pub(crate) fn tell_list<M: Memory>(
     ];
     let mut answers = [Answer::Done; 12];
     let unit = run_chilow(cipher, memory, &calls, &mut answers);
-    *told = print_list(rt, &calls, &answers, &unit);
-    unit
+    let told = print_list(rt, &calls, &answers, &unit);
+    let (_, memory) = unit.into_parts();
+    (memory, told)
 }
 
 fn print_list<M: Memory>(

@@ -5,11 +5,16 @@ use life::{Answer, Call, Status};
 use memory::Memory;
 use std::fmt;
 
-// Stays: Mode is another crate's type, and Display cannot be written for it here.
-fn mode_name(mode: Mode) -> &'static str {
-    match mode {
-        Mode::Tagged => "tagged",
-        Mode::Block => "block",
+/// A mode, shown by its name.
+#[derive(Clone, Copy)]
+struct Name(Mode);
+
+impl fmt::Display for Name {
+    fn fmt<W: fmt::Write>(&self, f: &mut fmt::Formatter<W>) -> fmt::Result {
+        match self.0 {
+            Mode::Tagged => write!(f, "tagged"),
+            Mode::Block => write!(f, "block"),
+        }
     }
 }
 
@@ -28,7 +33,7 @@ fn print_install(rt: &HostRuntime, image: &[u8]) -> anyhow::Result<()> {
     match read_header(image) {
         Ok(header) => {
             let version = header.version();
-            let mode = mode_name(header.mode());
+            let mode = Name(header.mode());
             let tag_length = header.tag_length();
             print!(rt; "install version {version}, {mode} {tag_length}: ")?;
         }

@@ -9,6 +9,7 @@ use memory::Memory;
 use unit::unit::Unit;
 
 /// A step of the story: a call, the status, or a fetch of every address of the program.
+// Stays: a step is data, not a closure: one list holds steps of three kinds, for a unit of any cipher and any memory.
 #[derive(Clone, Copy)]
 enum Step<'a> {
     Perform(Call<'a>),
