@@ -43,19 +43,10 @@ module _ {C M : Type 0} (c : WordCipher C) (m : Memory M) where
   same_coding : (before after : UnitOf C M) (what : Meaning) (reply : Reply) → Obeys c m before what reply after → coding_of after ≡ coding_of before
   same_coding before after (refused e) reply o = ap coding_of o.1
   same_coding before after status reply o = ap coding_of o.1
-  same_coding before after (load k) reply o = ap coding o.did.machine.suite
-  same_coding before after (install bytes) reply o = ap coding o.2.did.machine.suite
-  same_coding before after (fetch address) reply o = ap coding o.did.machine.suite
-  same_coding before after (overwrite slot number) reply o = ap coding o.did.machine.suite
-
-  -- whatever a line means, the rest of the memory is kept
-  pub rest_kept : (before after : UnitOf C M) (what : Meaning) (reply : Reply) → Obeys c m before what reply after → m.rest after.memory ≡ m.rest before.memory
-  rest_kept before after (refused e) reply o = ap (λ (u : UnitOf C M). m.rest u.memory) o.1
-  rest_kept before after status reply o = ap (λ (u : UnitOf C M). m.rest u.memory) o.1
-  rest_kept before after (load k) reply o = o.did.rest
-  rest_kept before after (install bytes) reply o = o.2.did.rest
-  rest_kept before after (fetch address) reply o = o.did.rest
-  rest_kept before after (overwrite slot number) reply o = o.did.rest
+  same_coding before after (load k) reply o = ap coding o.did.suite
+  same_coding before after (install bytes) reply o = ap coding o.2.did.suite
+  same_coding before after (fetch address) reply o = ap coding o.did.suite
+  same_coding before after (overwrite slot number) reply o = ap coding o.did.suite
 
   pub sessions_last : SessionsLast c m
   sessions_last [] before after first start h g a = (h, refl, same_unit before after first start h g a)

@@ -8,20 +8,20 @@ use Rattle.life.specs.declared.Call.TheVariants.{Load, Install, Fetch, Overwrite
 use Rattle.life.specs.Coding.{Coding, coding}
 use Rattle.life.specs.History.{Event, event}
 use Rattle.life.specs.Life.{Law, Agrees}
-use Rattle.life.specs.State.{State}
+use Rattle.life.specs.State.{State, Did}
 use Rattle.unit.specs.declared.unit.Unit.{Unit as UnitOf}
-use Rattle.unit.specs.View.{state_of, suite_of, status_of, Does, Lives}
+use Rattle.unit.specs.View.{state_of, suite_of, status_of, Lives}
 use Rattle.command.specs.declared.reply.Reply.{Reply}
 use Rattle.command.specs.declared.reply.Reply.TheVariants.{Refused, Status}
 use Rattle.command.specs.Lines.{Meaning, meaning}
 use Rattle.command.specs.Lines.Meaning.{refused, status, load, install, fetch, overwrite}
 use Rattle.command.specs.Replies.{reply_of}
 
--- a call of the unit, made once: the reply is its answer, the unit did what that call does, and under the law of its life
+-- a call of the unit, made once: the reply is its answer, the unit is what the machine says, and under the law of its life
 pub record Performed {C M : Type 0} (c : WordCipher C) (m : Memory M) (before : UnitOf C M) (call : Call) (reply : Reply) (after : UnitOf C M) : Type 0 where
   pub answer : Answer
   pub told : reply ≡ reply_of answer
-  pub did : Does c m before call answer after
+  pub did : Did (suite_of c before.core.cipher) (state_of c m before) call answer (suite_of c after.core.cipher) (state_of c m after)
   pub life : Lives c m before call answer after
 
 -- a call that installs those bytes

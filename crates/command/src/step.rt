@@ -12,7 +12,8 @@ use unit::unit::Unit;
 
 // Makes a call of the unit.
 fn perform<C: WordCipher, M: Memory>(unit: &mut Unit<C, M>, call: Call<'_>) -> Reply
-    ensures { Performed C.WordCipher M.Memory unit.old call.entry result unit.new }
+    ensures did { Performed C.WordCipher M.Memory unit.old call.entry result unit.new }
+    ensures rest { M.rest unit.new.memory ≡ M.rest unit.old.memory }
 {
     reply_of(unit.perform(call))
 }
@@ -30,7 +31,8 @@ pub fn answer_line<C: WordCipher, M: Memory>(unit: &mut Unit<C, M>, line: &[u8])
 
 // The same, with no theorem in its contract.
 fn do_line<C: WordCipher, M: Memory>(unit: &mut Unit<C, M>, line: &[u8]) -> Reply
-    ensures { Obeys C.WordCipher M.Memory unit.old (meaning line.now) result unit.new }
+    ensures did { Obeys C.WordCipher M.Memory unit.old (meaning line.now) result unit.new }
+    ensures rest { M.rest unit.new.memory ≡ M.rest unit.old.memory }
 {
     let mut image = [0u8; 512];
     match parse(line, &mut image) {

@@ -1,5 +1,5 @@
 use Rattle.command.specs.Lines.{meaning}
-use Rattle.command.proofs.Lasting.{lasts, rest_kept, sessions_last}
+use Rattle.command.proofs.Lasting.{lasts, sessions_last}
 use Rattle.command.proofs.step.answer_line.Goals as goal
 
 pub returns : goal.returns
@@ -9,10 +9,10 @@ returns g c =
     let before = c.args.unit.now in
     let after = c.do_line.new.unit in
     let what = meaning c.args.line.now in
-    let did = c.do_line.ensures in
+    let did = c.do_line.ensures.did in
     record {
       did = did;
       life = lasts C M before after what c.do_line.result did;
       sessions = sessions_last C M;
-      rest = rest_kept C M before after what c.do_line.result did;
+      rest = c.do_line.ensures.rest;
     }
