@@ -145,9 +145,6 @@ module _ (o a e w r : ℕ) (begins : a * 8 ≤ o) (ends : o + w + r ≡ e * 8) w
   }
 
 -- ---- bytes written one by one, the last first
-pub none_written : (xs : List ℕ) (o v : ℕ) → Written xs xs o 0 v
-none_written xs o v = record { long = refl; inside = λ j a b _. absurd (omega arith); outside = λ j _. refl }
-
 -- a byte past the end is not written
 pub none_there : (bs : List ℕ) (i c : ℕ) → length bs ≤ i → Written bs bs (i * 8) 8 c
 none_there bs i c l = record { long = refl; inside = λ j a b w. absurd (omega arith); outside = λ j _. refl }

@@ -79,6 +79,7 @@ number_from_bits n r f low high =
     ∙ digit-bit (bit_at (number n f) i) (bit_at-lt (number n f) i))
 
 pub bits_determine : BitsDetermine
+unfolding BitsDetermine
 bits_determine n x y hx hy e = sym (number_self n x hx) ∙ number_ext n (bit x) (bit y) e ∙ number_self n y hy
 
 pub bits_are_free : BitsAreFree
@@ -89,15 +90,14 @@ part_bits x a n i l =
     ap (λ (z : ℕ). bit z i) (sym (number_bits n (x / 2 ^ a))) ∙ bit-number n (bit (x / 2 ^ a)) i l
     ∙ ap (λ (z : ℕ). eqb (z % 2) 1) (shr-shr x a i)
 
+pub ruleset bits_of_parts = (part_bits, bits_determine, bits_are_free)
+
 pub part_lt : (x a n : ℕ) → part x a n < 2 ^ n
 part_lt x a n = mod-lt (x / 2 ^ a) (pow_pos n)
 
 -- a number is below every power that is not below that of its width
 pub high_zero : (x w k : ℕ) → x < 2 ^ w → w ≤ k → x / 2 ^ k ≡ 0
 high_zero x w k h l = div-eq_of_lt (let p : 2 ^ w ≤ 2 ^ k = pow_mono l in omega arith)
-
-pub low_all : (x w k : ℕ) → x < 2 ^ w → w ≤ k → x % 2 ^ k ≡ x
-low_all x w k h l = mod-eq_of_lt (let p : 2 ^ w ≤ 2 ^ k = pow_mono l in omega arith)
 
 pub shifted_past : (x k : ℕ) → x < 2 ^ 128 → 128 ≤ k → x / 2 ^ k ≡ 0
 shifted_past x k h l = high_zero x 128 k h l
@@ -106,7 +106,7 @@ pub masked : (x k p : ℕ) → k < 128 → p ≡ 1 * 2 ^ k % 2 ^ 128 → bit_and
 masked x k p l e = ap (λ (z : ℕ). bit_and x (z - 1)) (e ∙ one_shl k 128 l) ∙ and_mask x k
 
 pub low_all_128 : (x k : ℕ) → x < 2 ^ 128 → 128 ≤ k → x % 2 ^ k ≡ x
-low_all_128 x k h l = low_all x 128 k h l
+low_all_128 x k h l = mod-eq_of_lt (let p : 2 ^ 128 ≤ 2 ^ k = pow_mono l in omega arith)
 
 -- two functions that undo each other on n bits: the inverse's value is the only argument with that value
 pub only_one : (n : ℕ) (f f⁻¹ : ℕ → ℕ) → ((x : ℕ) → f⁻¹ (f x) ≡ x % 2 ^ n) → ((y : ℕ) → f (f⁻¹ y) ≡ y % 2 ^ n)

@@ -31,7 +31,7 @@ pub record SetsBit (before after i : ℕ) (b : Bool) : Type 0 where
   pub others : (j : ℕ) → j ≢ i → bit after j ≡ bit before j
 
 -- two numbers of n bits with the same bits are the same number
-abbrev pub BitsDetermine : Type 0
+unfoldable pub BitsDetermine : Type 0
 BitsDetermine = (n x y : ℕ) → x < 2 ^ n → y < 2 ^ n → ((i : ℕ) → i < n → bit x i ≡ bit y i) → x ≡ y
 
 -- any n bits are the bits of a number of n bits

@@ -14,6 +14,7 @@ pub fn bit_at(x: u128, i: u32) -> bool
 }
 
 /// The `count` bits of `x` from bit `start` on, as a number; bits past the highest are 0.
+#[tactic(auto, using(crate::proofs::Numbers::bits_of_parts))]
 pub fn part_of(x: u128, start: u32, count: u32) -> u128
     ensures is { result ≡ part x start count }
     ensures fits { result < 2 ^ count }
