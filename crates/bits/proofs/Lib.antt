@@ -3,3 +3,4 @@ pub mod Fields
 pub mod Folds
 pub mod Setting
 pub mod Patching
+pub mod Writing

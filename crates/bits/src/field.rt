@@ -81,13 +81,10 @@ impl Span {
     fn write(self, bytes: &mut [u8], number: u128)
         ensures { Written bytes.old bytes.new (self.first * 8) ((self.end - self.first) * 8) number }
     {
-        // Stays: by index, since nothing is known to a proof of what was written through `get_mut` or an adapter of `iter_mut`.
-        let mut left = number;
-        for i in (self.first..self.end).rev() {
-            if i < bytes.len() {
-                bytes[i] = (left % 256) as u8;
-            }
-            left >>= 8;
+        let end = self.end.min(bytes.len());
+        if self.first < end {
+            let low = &number.to_be_bytes()[16 - (self.end - self.first)..];
+            bytes[self.first..end].copy_from_slice(&low[..end - self.first]);
         }
     }
 }
