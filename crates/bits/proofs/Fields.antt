@@ -1,7 +1,7 @@
 -- Laws of bits in bytes, and the steps of reading and writing a field.
-use Rattle.std.proofs.Common.{◌≡◌, ℕ, zero, suc, ◌+◌, ◌-◌, ◌*◌, ◌/◌, ◌%◌, ◌^◌, ◌<◌, ◌≤◌, ◌≢◌, ◌⊎◌, List, length, get_or, set, sym, refl, ap, ◌∙◌, subst, ap₂, inl, inr, ⊎_elim, add-zero, add_assoc, add-suc, mod-eq_of_lt, mul_assoc, pow-suc, div-one, arith, length-set, get_or-set_other, get_or-set_same}
+use Rattle.std.proofs.Common.{◌≡◌, ℕ, zero, suc, ◌+◌, ◌-◌, ◌*◌, ◌/◌, ◌%◌, ◌^◌, ◌<◌, ◌≤◌, ◌⊎◌, List, length, get_or, sym, refl, ap, ◌∙◌, subst, ap₂, inl, inr, ⊎_elim, add-zero, add_assoc, add-suc, mod-eq_of_lt, mul_assoc, pow-suc, div-one, arith}
 use lib.Bits.{bit_or}
-use native.Mathlib.Nat.{mod-one, mod-mod}
+use native.Mathlib.Nat.{mod-one}
 use lib.Pow.{mod-mod-pow}
 use Rattle.std.proofs.lemmas.Nat.{shr-shr, mod-pow-add, field_of, shr_high, mod_low, shl_whole, or_shifted}
 use Rattle.std.proofs.lemmas.List.{same_lists, get_or_default, get_or_past}
@@ -143,45 +143,6 @@ module _ (o a e w r : ℕ) (begins : a * 8 ≤ o) (ends : o + w + r ≡ e * 8) w
           ]
     ];
   }
-
--- ---- bytes written one by one, the last first
--- a byte past the end is not written
-pub none_there : (bs : List ℕ) (i c : ℕ) → length bs ≤ i → Written bs bs (i * 8) 8 c
-none_there bs i c l = record { long = refl; inside = λ j a b w. absurd (omega arith); outside = λ j _. refl }
-
-other_byte : (bs : List ℕ) (i j c : ℕ) → j / 8 ≢ i → bit_in (set bs i c) j ≡ bit_in bs j
-unfolding bit_in
-other_byte bs i j c ne = ap (λ (z : ℕ). z / 2 ^ (7 - j % 8) % 2) (get_or-set_other bs i (j / 8) c 0 ne)
-
-pub one_there : (bs : List ℕ) (i c : ℕ) → i < length bs → Written bs (set bs i (c % 256)) (i * 8) 8 c
-one_there bs i c within = record {
-  long = length-set bs i _;
-  inside = λ j a b _.
-      let p : ℕ = j - i * 8 in
-      let e : j ≡ i * 8 + p = omega arith in
-      ap (bit_in (set bs i (c % 256))) e ∙ bit_byte (set bs i (c % 256)) i p (omega arith)
-      ∙ ap (λ (z : ℕ). z / 2 ^ (7 - p) % 2) (get_or-set_same bs i _ 0 within)
-      ∙ below_same (c % 256) c 8 (7 - p) (omega arith) (mod-mod c 256)
-      ∙ ap (λ (k : ℕ). c / 2 ^ k % 2) (let q : 7 - p ≡ i * 8 + 8 - 1 - j = omega arith in q);
-  outside = λ j out. other_byte bs i j _ (⊎_elim (λ l. omega arith) (λ l. omega arith) out);
-}
-
--- the low b bits of v, and then those above in front of them
-pub written_before : (xs ys zs : List ℕ) (o a b v : ℕ) → Written xs ys (o + a) b v → Written ys zs o a (v / 2 ^ b) → Written xs zs o (a + b) v
-written_before xs ys zs o a b v low high = record {
-  long = high.long ∙ low.long;
-  inside = λ j l u w. elim (cases_lt j (o + a)) [
-    | inl k ↦
-        high.inside j l k (let e : length ys ≡ length xs = low.long in omega arith)
-        ∙ ap (λ (z : ℕ). z % 2) (shr-shr v b (o + a - 1 - j)) ∙ ap (λ (z : ℕ). v / 2 ^ z % 2) (let e : b + (o + a - 1 - j) ≡ o + (a + b) - 1 - j = omega arith in e)
-    | inr k ↦
-        high.outside j (inr k) ∙ low.inside j k (omega arith) w
-        ∙ ap (λ (z : ℕ). v / 2 ^ z % 2) (let e : o + a + b - 1 - j ≡ o + (a + b) - 1 - j = omega arith in e)
-  ];
-  outside = λ j out.
-      high.outside j (⊎_elim (λ k. inl k) (λ k. inr (omega arith)) out)
-      ∙ low.outside j (⊎_elim (λ k. inl (omega arith)) (λ k. inr (omega arith)) out);
-}
 
 pub reads_back : ReadsBack
 reads_back xs ys o w v h room =
