@@ -104,6 +104,7 @@ impl State {
     }
 
     // Its bits `low` and `low + 1`, from its bits `high` and `high + 1`.
+    // Stays: std has no lemma on a fold over a reversed range, so `rev().fold(..)` needs lemmas longer than both loops.
     fn walk(self, low: u32, high: u32, mut pair: Pair) -> Pair
         requires { low ≤ high }
         ensures { result ≡ walk (bit self.bits) low (high - low) pair }
@@ -115,6 +116,7 @@ impl State {
     }
 
     // `r` with its bits from `low` up to `high`, from its bits `high` and `high + 1`.
+    // Stays: a fold would carry `(r, pair)` and end in `.0`, which is no plainer than the two variables.
     fn with_walk(self, mut r: u128, low: u32, high: u32, mut pair: Pair) -> u128
         requires ordered { low ≤ high }
         requires within { high ≤ 128 }
