@@ -63,7 +63,7 @@ impl WordCipher for Bare {
     }
 
     fn encrypt(&self, tweak: u64, instruction: u32) -> u64 {
-        instruction as u64 * 256
+        u64::from(instruction) * 256
     }
 
     fn decrypt(&self, tweak: u64, stored: u64) -> Option<u32> {
@@ -102,7 +102,7 @@ mod tests {
 
     #[test]
     fn published_words(rt: HostRuntime) -> Result<(), Fail> {
-        for tag_length in 8..17 {
+        for tag_length in 8..=16 {
             let cipher = made(Mode::Tagged, tag_length)?;
             let tag = 0x0FBC_7E64 % (1u64 << tag_length);
             let stored = 0x0123_4567u64 * (1u64 << tag_length) + tag;
@@ -149,14 +149,7 @@ mod tests {
             let refusal = ChiLow::new(mode, tag_length)
                 .err()
                 .ok_or("a tag length that does not fit is taken")?;
-            assert_eq!(rt;
-                refusal.note(),
-                Note {
-                    number: 3,
-                    place: 3,
-                    layer: Layer::Cipher
-                }
-            );
+            assert_eq!(rt; refusal.note(), Note::new(3, 3, Layer::Cipher));
         }
         Ok(())
     }

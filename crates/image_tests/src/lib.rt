@@ -63,16 +63,8 @@ mod tests {
     }
 
     fn refused_bytes(rt: &impl Abort, bytes: &[u8], number: u32, place: u32) {
-        let layer = Layer::Image;
         let note = check_image(bytes).map_err(|refusal| refusal.note());
-        assert_eq!(rt;
-            note,
-            Err(Note {
-                number,
-                place,
-                layer
-            })
-        );
+        assert_eq!(rt; note, Err(Note::new(number, place, Layer::Image)));
     }
 
     fn accepted(rt: &impl Abort, heap: Global, raw: Raw) -> Result<(), Fail> {

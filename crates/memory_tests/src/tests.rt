@@ -17,11 +17,7 @@ fn number_for(slot: u32) -> u64 {
 
 // What a refusal of a memory tells.
 fn told(number: u32, place: u32) -> Note {
-    Note {
-        number,
-        place,
-        layer: Layer::Memory,
-    }
+    Note::new(number, place, Layer::Memory)
 }
 
 fn check_holds<M: Memory>(rt: &impl Abort, memory: &M, slot: u32, number: u64) {

@@ -26,14 +26,6 @@ mod tests {
         image
     }
 
-    fn told(number: u32, place: u32, layer: Layer) -> Note {
-        Note {
-            number,
-            place,
-            layer,
-        }
-    }
-
     fn accepted(image: &[u8], first: u32, length: usize) -> Result<(), Refusal> {
         check_page(&Bare::new(0), image, first, length)
     }
@@ -79,26 +71,26 @@ mod tests {
         accepted(&IMAGE, 0, 3)?;
         accepted(&IMAGE, 2, 1)?;
         accepted(&IMAGE, 3, 0)?;
-        refused(&rt, &IMAGE, 0, 4, told(19, 3, Layer::Image));
-        refused(&rt, &IMAGE, 3, 1, told(19, 3, Layer::Image));
-        refused(&rt, &IMAGE, 4, 0, told(19, 3, Layer::Image));
-        refused(&rt, &IMAGE, 0xFFFF_FFFF, 1, told(19, 3, Layer::Image));
-        refused(&rt, &IMAGE, 0xFFFF_FFFF, 4, told(19, 3, Layer::Image));
-        refused(&rt, &IMAGE, 1, usize::MAX, told(19, 3, Layer::Image));
+        refused(&rt, &IMAGE, 0, 4, Note::new(19, 3, Layer::Image));
+        refused(&rt, &IMAGE, 3, 1, Note::new(19, 3, Layer::Image));
+        refused(&rt, &IMAGE, 4, 0, Note::new(19, 3, Layer::Image));
+        refused(&rt, &IMAGE, 0xFFFF_FFFF, 1, Note::new(19, 3, Layer::Image));
+        refused(&rt, &IMAGE, 0xFFFF_FFFF, 4, Note::new(19, 3, Layer::Image));
+        refused(&rt, &IMAGE, 1, usize::MAX, Note::new(19, 3, Layer::Image));
         Ok(())
     }
 
     #[test]
     fn earlier_refusals(rt: HostRuntime) {
-        refused(&rt, &[], 0, 1, told(2, 0, Layer::Image));
-        refused(&rt, &IMAGE[0..23], 0, 4, told(4, 24, Layer::Image));
+        refused(&rt, &[], 0, 1, Note::new(2, 0, Layer::Image));
+        refused(&rt, &IMAGE[0..23], 0, 4, Note::new(4, 24, Layer::Image));
         let mut image = foul();
         image[0] = 0x07;
-        refused(&rt, &image, 0, 3, told(3, 3, Layer::Image));
+        refused(&rt, &image, 0, 3, Note::new(3, 3, Layer::Image));
         // tags of 9 bits, in an image of the same length: refused before the end and the records are looked at
         image[0] = 0x09;
-        refused(&rt, &image, 0, 3, told(5, 2, Layer::Cipher));
-        refused(&rt, &image, 0, 4, told(5, 2, Layer::Cipher));
+        refused(&rt, &image, 0, 3, Note::new(5, 2, Layer::Cipher));
+        refused(&rt, &image, 0, 4, Note::new(5, 2, Layer::Cipher));
     }
 
     #[test]
@@ -107,9 +99,9 @@ mod tests {
         accepted(&image, 0, 1)?;
         accepted(&image, 2, 1)?;
         accepted(&image, 1, 0)?;
-        refused(&rt, &image, 0, 2, told(8, 1, Layer::Cipher));
-        refused(&rt, &image, 1, 1, told(8, 1, Layer::Cipher));
-        refused(&rt, &image, 1, 3, told(19, 3, Layer::Image));
+        refused(&rt, &image, 0, 2, Note::new(8, 1, Layer::Cipher));
+        refused(&rt, &image, 1, 1, Note::new(8, 1, Layer::Cipher));
+        refused(&rt, &image, 1, 3, Note::new(19, 3, Layer::Image));
         Ok(())
     }
 
@@ -127,7 +119,7 @@ mod tests {
         let past = find_instruction(&cipher, &IMAGE, 2, 7, &mut buffer);
         assert_eq!(rt;
             past.map_err(|refusal| refusal.note()),
-            Err(told(19, 3, Layer::Image))
+            Err(Note::new(19, 3, Layer::Image))
         );
         assert!(rt; buffer == [9, 8]);
         Ok(())

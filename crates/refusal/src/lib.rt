@@ -2,7 +2,7 @@
 #![tactic(auto)]
 
 ghost use Rattle.std.specs.Prelude.{◌≡◌, Some};
-ghost use Rattle.refusal.specs.Table.{bit_of, note_of, layer_name, refusal_text};
+ghost use Rattle.refusal.specs.Table.{bit_of, told, note_of, layer_name, refusal_text};
 
 use std::error::Error;
 use std::fmt;
@@ -88,6 +88,19 @@ pub struct Note {
     pub layer: Layer,
 }
 
+impl Note {
+    /// A note of these three.
+    pub fn new(number: u32, place: u32, layer: Layer) -> Note
+        ensures { result ≡ told number place layer }
+    {
+        Note {
+            number,
+            place,
+            layer,
+        }
+    }
+}
+
 impl HeaderField {
     /// The bit of the header at which the field begins.
     pub fn bit(self) -> u32
@@ -108,27 +121,27 @@ impl Refusal {
         ensures { result ≡ note_of self }
     {
         match self {
-            Refusal::Stub { length } => told(2, length, Layer::Image),
-            Refusal::BadHeader(field) => told(3, field.bit(), Layer::Image),
-            Refusal::Misfit { right_length } => told(4, right_length, Layer::Image),
-            Refusal::PastEnd { count } => told(19, count, Layer::Image),
-            Refusal::BadTagLength => told(3, 3, Layer::Cipher),
-            Refusal::Foreign => told(5, 2, Layer::Cipher),
-            Refusal::FoulRecord { index } => told(8, index, Layer::Cipher),
-            Refusal::Rejected { address } => told(11, address, Layer::Cipher),
-            Refusal::NoSlot { slot } => told(12, slot, Layer::Memory),
-            Refusal::TooWide { slot } => told(13, slot, Layer::Memory),
-            Refusal::NoKey => told(1, 0, Layer::Unit),
-            Refusal::Stale { in_force } => told(6, in_force.unwrap_or(0), Layer::Unit),
-            Refusal::TooBig { slots } => told(7, slots, Layer::Unit),
-            Refusal::Odd { address } => told(9, address, Layer::Unit),
-            Refusal::OffMap { address } => told(10, address, Layer::Unit),
-            Refusal::KeyInUse => told(14, 0, Layer::Unit),
-            Refusal::BadDraft => told(15, 0, Layer::Draft),
-            Refusal::ShortBuffer { needed } => told(16, needed, Layer::Draft),
-            Refusal::DraftFull { put } => told(17, put, Layer::Draft),
-            Refusal::DraftShort { put } => told(18, put, Layer::Draft),
-            Refusal::Garbled { at } => told(20, at, Layer::Console),
+            Refusal::Stub { length } => Note::new(2, length, Layer::Image),
+            Refusal::BadHeader(field) => Note::new(3, field.bit(), Layer::Image),
+            Refusal::Misfit { right_length } => Note::new(4, right_length, Layer::Image),
+            Refusal::PastEnd { count } => Note::new(19, count, Layer::Image),
+            Refusal::BadTagLength => Note::new(3, 3, Layer::Cipher),
+            Refusal::Foreign => Note::new(5, 2, Layer::Cipher),
+            Refusal::FoulRecord { index } => Note::new(8, index, Layer::Cipher),
+            Refusal::Rejected { address } => Note::new(11, address, Layer::Cipher),
+            Refusal::NoSlot { slot } => Note::new(12, slot, Layer::Memory),
+            Refusal::TooWide { slot } => Note::new(13, slot, Layer::Memory),
+            Refusal::NoKey => Note::new(1, 0, Layer::Unit),
+            Refusal::Stale { in_force } => Note::new(6, in_force.unwrap_or(0), Layer::Unit),
+            Refusal::TooBig { slots } => Note::new(7, slots, Layer::Unit),
+            Refusal::Odd { address } => Note::new(9, address, Layer::Unit),
+            Refusal::OffMap { address } => Note::new(10, address, Layer::Unit),
+            Refusal::KeyInUse => Note::new(14, 0, Layer::Unit),
+            Refusal::BadDraft => Note::new(15, 0, Layer::Draft),
+            Refusal::ShortBuffer { needed } => Note::new(16, needed, Layer::Draft),
+            Refusal::DraftFull { put } => Note::new(17, put, Layer::Draft),
+            Refusal::DraftShort { put } => Note::new(18, put, Layer::Draft),
+            Refusal::Garbled { at } => Note::new(20, at, Layer::Console),
         }
     }
 }
@@ -162,13 +175,3 @@ impl fmt::Display for Refusal {
 }
 
 impl Error for Refusal {}
-
-fn told(number: u32, place: u32, layer: Layer) -> Note
-    ensures { result ≡ record { number = number; place = place; layer = layer } }
-{
-    Note {
-        number,
-        place,
-        layer,
-    }
-}

@@ -40,16 +40,8 @@ mod tests {
         0xF3, 0x7B, 0xC0, 0x3F,
     ];
 
-    fn note(number: u32, place: u32, layer: Layer) -> Note {
-        Note {
-            number,
-            place,
-            layer,
-        }
-    }
-
     fn draft_note(number: u32, place: u32) -> Note {
-        note(number, place, Layer::Draft)
+        Note::new(number, place, Layer::Draft)
     }
 
     fn untouched(rt: &impl Abort, buffer: &[u8]) {
@@ -224,7 +216,7 @@ mod tests {
         let other = ChiLow::new(mode, tag_length)?;
         let mut buffer = [0xFF; 19];
         let draft = opened(&mut buffer)?;
-        let draft = put_refused(rt, draft, &other, &mut [], note(5, 2, Layer::Cipher))?;
+        let draft = put_refused(rt, draft, &other, &mut [], Note::new(5, 2, Layer::Cipher))?;
         let draft = put(draft, WORDS[0], &mut buffer)?;
         let draft = put(draft, WORDS[1], &mut buffer)?;
         let draft = put_refused(rt, draft, &other, &mut buffer, draft_note(17, 2))?;
