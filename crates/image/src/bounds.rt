@@ -1,7 +1,6 @@
 // Making a header from its fields.
-ghost use Rattle.std.specs.Prelude.{◌≡◌, true, false, MatchOption};
+ghost use Rattle.std.specs.Prelude.{◌≡◌, is_some, IfSome};
 ghost use Rattle.image.specs.Laws.{proper_head};
-ghost use Rattle.image.specs.Layout.{Head};
 ghost use Rattle.image.specs.Reading.{head_of};
 
 use crate::header::Header;
@@ -10,7 +9,8 @@ use cipher::Mode;
 impl Header {
     /// A header with these fields, or nothing where one is out of bounds.
     pub fn new(mode: Mode, tag_length: u32, version: u32, base: u32, count: u32) -> Option<Header>
-        ensures { let asked : Head = record { mode = mode; tag = tag_length; version = version; base = base; count = count } in MatchOption result (proper_head asked ≡ false) (λ header. (proper_head asked ≡ true) × (head_of header ≡ asked)) }
+        ensures bounds { is_some result ≡ proper_head (record { mode = mode; tag = tag_length; version = version; base = base; count = count }) }
+        ensures fields { IfSome result (λ header. head_of header ≡ record { mode = mode; tag = tag_length; version = version; base = base; count = count }) }
     {
         if !mode.fits(tag_length) || version >= 256 {
             return None;

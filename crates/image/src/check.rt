@@ -1,8 +1,8 @@
 // Checking an image, and reading its records.
-ghost use Rattle.std.specs.Prelude.{◌≡◌};
-ghost use Rattle.refusal.specs.Rows.{RefusedBy, RefusedByOr};
+ghost use Rattle.std.specs.Prelude.{◌≡◌, IfOk};
+ghost use Rattle.std.specs.Result.{result_err};
 ghost use Rattle.image.specs.Laws.{LayoutIsRead, OnlyLayoutIsRead};
-ghost use Rattle.image.specs.Reading.{head_in, head_of, record_in, record_at, pad_in, head_refusal, fit_refusal, foreign_to, foreign_refusal, refusal_of};
+ghost use Rattle.image.specs.Reading.{head_in, head_of, record_at, head_refusal, fit_refusal, foreign_refusal, refusal_of};
 
 use crate::header::Header;
 use bits::field::read_field;
@@ -11,7 +11,8 @@ use refusal::{HeaderField, Refusal};
 
 /// The header of an image, or the first refusal that fits it.
 pub fn read_header(bytes: &[u8]) -> Result<Header, Refusal>
-    ensures { RefusedByOr (head_refusal bytes.now) result (λ header. head_of header ≡ head_in bytes.now) }
+    ensures refusal { result_err result ≡ head_refusal bytes.now }
+    ensures header { IfOk result (λ header. head_of header ≡ head_in bytes.now) }
 {
     if bytes.len() < 9 {
         return Err(Refusal::Stub {
@@ -47,7 +48,7 @@ pub fn read_header(bytes: &[u8]) -> Result<Header, Refusal>
 // Stays: bytes and header are two parameters here and in `read_record` alone, and a method of either reads no plainer.
 /// Whether an image has exactly the length that its header says, with all pad bits zero, or the refusal.
 pub fn check_fit(bytes: &[u8], header: &Header) -> Result<(), Refusal>
-    ensures { RefusedBy (fit_refusal bytes.now (head_of header.now)) result }
+    ensures { result_err result ≡ fit_refusal bytes.now (head_of header.now) }
 {
     let right_length = header.image_length();
     let end = header.end();
@@ -58,18 +59,11 @@ pub fn check_fit(bytes: &[u8], header: &Header) -> Result<(), Refusal>
     Ok(())
 }
 
-/// Whether the mode or the tag length of a header is not the cipher's.
-pub fn is_foreign<C: WordCipher>(header: &Header, cipher: &C) -> bool
-    ensures { result ≡ foreign_to (C.mode_of cipher.now) (C.tag_of cipher.now) (head_of header.now) }
-{
-    cipher.mode() != header.mode() || cipher.tag_length() != header.tag_length()
-}
-
 /// Whether an image with that header is for the cipher, or the refusal.
 pub fn check_cipher<C: WordCipher>(header: &Header, cipher: &C) -> Result<(), Refusal>
-    ensures { RefusedBy (foreign_refusal (C.mode_of cipher.now) (C.tag_of cipher.now) (head_of header.now)) result }
+    ensures { result_err result ≡ foreign_refusal (C.mode_of cipher.now) (C.tag_of cipher.now) (head_of header.now) }
 {
-    if is_foreign(header, cipher) {
+    if cipher.mode() != header.mode() || cipher.tag_length() != header.tag_length() {
         Err(Refusal::Foreign)
     } else {
         Ok(())
@@ -78,7 +72,8 @@ pub fn check_cipher<C: WordCipher>(header: &Header, cipher: &C) -> Result<(), Re
 
 /// The header of an image that is right in every way but its records, or the first refusal that fits.
 pub fn check_image(bytes: &[u8]) -> Result<Header, Refusal>
-    ensures answer { RefusedByOr (refusal_of bytes.now) result (λ header. head_of header ≡ head_in bytes.now) }
+    ensures refusal { result_err result ≡ refusal_of bytes.now }
+    ensures header { IfOk result (λ header. head_of header ≡ head_in bytes.now) }
     ensures laid { LayoutIsRead }
     ensures only { OnlyLayoutIsRead }
 {
@@ -86,7 +81,8 @@ pub fn check_image(bytes: &[u8]) -> Result<Header, Refusal>
 }
 
 fn checked(bytes: &[u8]) -> Result<Header, Refusal>
-    ensures { RefusedByOr (refusal_of bytes.now) result (λ header. head_of header ≡ head_in bytes.now) }
+    ensures refusal { result_err result ≡ refusal_of bytes.now }
+    ensures header { IfOk result (λ header. head_of header ≡ head_in bytes.now) }
 {
     let header = read_header(bytes)?;
     check_fit(bytes, &header)?;

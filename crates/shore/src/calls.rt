@@ -1,6 +1,6 @@
 // Opening a draft, putting its words, closing it.
 ghost use Rattle.std.specs.Prelude.{◌≡◌, ◌+◌, ◌<◌, OnOk};
-ghost use Rattle.refusal.specs.Rows.{RefusedBy};
+ghost use Rattle.std.specs.Result.{result_err};
 ghost use Rattle.image.specs.Reading.{head_of};
 ghost use Rattle.shore.specs.Drafting.{keyed_by, short_refusal, put_refusal, close_refusal, encryption, Opens, Puts, Closes};
 ghost use Rattle.shore.specs.Making.{MadeIsImage};
@@ -90,7 +90,7 @@ impl Draft {
 
     // Whether the next word can be put, or the first refusal that fits.
     fn check_put<C: WordCipher>(&self, cipher: &C, buffer: &[u8]) -> Result<(), Refusal>
-        ensures row { RefusedBy (put_refusal (keyed_by C.WordCipher cipher.now) self.now buffer.now) result }
+        ensures row { result_err result ≡ put_refusal (keyed_by C.WordCipher cipher.now) self.now buffer.now }
         ensures more { OnOk result (self.now.put < self.now.header.count) }
     {
         let put = self.put;
@@ -103,7 +103,7 @@ impl Draft {
 
     // Whether the draft can be closed, or the first refusal that fits.
     fn check_close(&self, buffer: &[u8]) -> Result<(), Refusal>
-        ensures { RefusedBy (close_refusal self.now buffer.now) result }
+        ensures { result_err result ≡ close_refusal self.now buffer.now }
     {
         let put = self.put;
         if put < self.header.count() {
@@ -115,7 +115,7 @@ impl Draft {
 
 // Whether the buffer has room for the image, or the refusal.
 fn check_room(header: &Header, buffer: &[u8]) -> Result<(), Refusal>
-    ensures { RefusedBy (short_refusal (head_of header.now) buffer.now) result }
+    ensures { result_err result ≡ short_refusal (head_of header.now) buffer.now }
 {
     let needed = header.image_length();
     if buffer.len() < needed as usize {
