@@ -1,5 +1,5 @@
 -- One call: the law after every history that the unit agrees with, and agreement with the longer one.
-use Rattle.std.proofs.Common.{◌≡◌, ℕ, ◌^◌, ◌<◌, Bool, true, false, cond, ltb, List, [], ◌∷◌, length, Some, None, Option, sym, refl, ap, ◌∙◌, subst, arith}
+use Rattle.std.proofs.Common.{◌≡◌, ℕ, ◌^◌, ◌<◌, Bool, true, false, cond, ltb, List, ◌∷◌, length, Some, None, Option, sym, ap, ◌∙◌, subst, arith}
 use Rattle.cipher.specs.Word.{fits_mode, Lawful}
 use Rattle.memory.specs.Slots.{wide, Sound}
 use Rattle.life.specs.declared.Answer.{Answer}
@@ -8,11 +8,11 @@ use Rattle.life.specs.Coding.{Coding, Suite, coding, tells}
 use Rattle.life.specs.Checks.{Known, row_of}
 use Rattle.life.specs.Deeds.{Deed, deed_of}
 use Rattle.life.specs.Deeds.Deed.{loaded, installed, overwrote, rejected, nothing}
-use Rattle.life.specs.State.{State, Did, fresh, known_by}
+use Rattle.life.specs.State.{State, Did, known_by}
 use Rattle.life.specs.History.{Event, event, key_in, rejections, live_key_by, cipher_key_by, image_in, slot_in, known_in}
 use Rattle.life.specs.Life.{Law, Answered, Agrees, Step}
 use Rattle.life.proofs.Meeting.{Meets, meets}
-use Rattle.life.proofs.Keeping.{none_some, kept}
+use Rattle.life.proofs.Keeping.{kept}
 use Rattle.life.proofs.Agreeing.{Fields, Allows, fields_step, same_known}
 use Rattle.life.proofs.Telling.{law}
 
@@ -44,20 +44,6 @@ agrees_by r a = record {
   holds = a.holds;
 }
 
--- a new unit agrees with the empty history
-pub agrees_fresh : (c : Coding) (first : ℕ) (start : List ℕ) → Agrees c first start [] (fresh first start)
-agrees_fresh c first start = record {
-  answered = tt;
-  condition = refl;
-  strikes = refl;
-  key = refl;
-  version = refl;
-  base = refl;
-  count = refl;
-  slots = refl;
-  holds = λ j l. refl;
-}
-
 allowed : (c : Coding) (start : List ℕ) (h : List Event) (d : Deed) → Meets c start h d → Allows (length start) (key_in h) (rejections h) d
 allowed c start h (loaded key) m = tt
 allowed c start h (installed image) m = m.3.fits
@@ -70,8 +56,8 @@ cipher_key first (Some key) n k e = by (ltb n 4) e
   where
     by : (b : Bool) → cond b (Some key) None ≡ Some k → cond b key 0 ≡ k
     by true q = cc
-    by false q = none_some q
-cipher_key first None n k e = none_some e
+    by false q = absurd cc
+cipher_key first None n k e = absurd cc
 
 module _ (u : Suite) (lawful : Lawful u.rule u.mode u.tag) (fits : fits_mode u.mode u.tag ≡ true)
     (s : State) (small : s.core.key < 2 ^ 128) (sound : Sound s.held)

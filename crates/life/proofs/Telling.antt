@@ -21,7 +21,7 @@ use Rattle.life.specs.History.{Event, key_in, rejections, live, live_by, live_ke
 use Rattle.life.specs.Life.{Yields, Untouched, Law, Answered}
 use Rattle.life.proofs.Foul.{all_open}
 use Rattle.life.proofs.Meeting.{key_live, live_key_lem}
-use Rattle.life.proofs.Keeping.{none_some, Kept, kept}
+use Rattle.life.proofs.Keeping.{Kept, kept}
 use Rattle.life.proofs.Fetching.{fetching_from, fetched_from}
 
 abbrev program_is : List ℕ → Program
@@ -29,7 +29,7 @@ program_is image = record { version = (head_in image).version; base = (head_in i
 
 image_of_lem : (I : Option (List ℕ)) (p : Program) → program_of I ≡ Some p → (image : List ℕ) × (I ≡ Some image) × (program_is image ≡ p)
 image_of_lem (Some image) p e = (image, refl, cc)
-image_of_lem None p e = none_some e
+image_of_lem None p e = absurd cc
 
 in_use : (o : Option ℕ) (c : Coding) (start : List ℕ) (h : List Event) (k : ℕ) → tells (row_by o c (known_in start h) (Load k)) ≡ refused (note_of KeyInUse) → (key : ℕ) × (o ≡ Some key)
 in_use (Some key) c start h k e = (key, refl)

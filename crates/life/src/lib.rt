@@ -27,6 +27,7 @@ pub enum Call<'a> {
     Overwrite { slot: u32, number: u64 },
 }
 
+// Stays: no Result, since a call that has nothing to tell is answered plainer by `Done` than by `Ok(None)`.
 /// What a unit answers.
 #[derive(Clone, Copy, PartialEq, Eq, Debug)]
 pub enum Answer {

@@ -4,6 +4,7 @@ ghost use Rattle.life.specs.declared.Call.TheVariants.{Load, Fetch, Overwrite};
 
 use crate::Call;
 
+// Stays: public, and their planted bugs are kept, though each is no shorter than the variant that it makes.
 impl<'a> Call<'a> {
     /// The call that loads a key.
     pub fn load(key: u128) -> Call<'a>
