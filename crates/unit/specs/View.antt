@@ -61,6 +61,11 @@ status_of s = record {
   in_force = s.core.version;
 }
 
+-- a core before and after, as f turns it, its cipher's rule, mode and tag length as they were
+pub record Turned {C : Type 0} (c : WordCipher C) (f : CoreState → CoreState) (before after : Core C) : Type 0 where
+  pub core : core_of c after ≡ f (core_of c before)
+  pub suite : suite_of c after.cipher ≡ suite_of c before.cipher
+
 -- what no call changes: the cipher's rule, mode and tag length, and the rest of the memory
 pub record Keeps {C M : Type 0} (c : WordCipher C) (m : Memory M) (cipher : C) (memory : M) (u : Unit C M) : Type 0 where
   pub suite : suite_of c u.core.cipher ≡ suite_of c cipher

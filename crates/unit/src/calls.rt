@@ -25,6 +25,7 @@ impl<C: WordCipher, M: Memory> Unit<C, M> {
         }
     }
 
+    // Stays: a call over `decide`, whose clause the check finds arm by arm; `life` then follows once, for all of them.
     /// Performs a call of any kind.
     pub fn perform(&mut self, call: Call<'_>) -> Answer
         ensures did { Does C.WordCipher M.Memory self.old call.entry result self.new }

@@ -36,6 +36,7 @@ impl<C: WordCipher, M: Memory> Unit<C, M> {
         }
     }
 
+    // Stays: that the key is live is asked here and of three calls more; without one there are no strikes to count.
     fn refuse(&mut self, refusal: Refusal) -> Answer
         requires { condition_of self.old.core.standing ≡ Live }
         ensures answer { result ≡ Refused refusal }

@@ -8,7 +8,7 @@ ghost use Rattle.life.specs.Deeds.{is_rejection};
 ghost use Rattle.life.specs.Deeds.Deed.{loaded};
 ghost use Rattle.life.specs.State.{unkeyed, struck, core_after, placed, strikes_left_of};
 ghost use Rattle.unit.specs.Standing.{condition_of, strikes_of, version_in, count_in};
-ghost use Rattle.unit.specs.View.{core_of, fetch_row_by, fetched};
+ghost use Rattle.unit.specs.View.{core_of, Turned, fetch_row_by, fetched};
 
 use crate::standing::Standing;
 use crate::unit_core::Core;
@@ -32,8 +32,7 @@ impl<C: WordCipher> Core<C> {
 
     // A new key: the core is live, has no strikes and nothing installed.
     pub(crate) fn begin(&mut self, key: u128)
-        ensures after { core_of C.WordCipher self.new ≡ core_after (loaded key) (core_of C.WordCipher self.old) }
-        ensures suite { suite_of C.WordCipher self.new.cipher ≡ suite_of C.WordCipher self.old.cipher }
+        ensures { Turned C.WordCipher (core_after (loaded key)) self.old self.new }
     {
         self.cipher.load(key);
         self.standing = Standing::Live { strikes: 0 };
@@ -43,8 +42,7 @@ impl<C: WordCipher> Core<C> {
     // One strike more for a live core; at the fourth it is locked, and its cipher's key is zero.
     pub(crate) fn strike(&mut self)
         requires { condition_of self.old.standing ≡ Live }
-        ensures after { core_of C.WordCipher self.new ≡ struck (core_of C.WordCipher self.old) }
-        ensures suite { suite_of C.WordCipher self.new.cipher ≡ suite_of C.WordCipher self.old.cipher }
+        ensures { Turned C.WordCipher struck self.old self.new }
     {
         match self.standing {
             Standing::Live { strikes } if strikes < 3 => {
@@ -61,8 +59,7 @@ impl<C: WordCipher> Core<C> {
 
     // The program of that header is installed.
     pub(crate) fn place(&mut self, header: Header)
-        ensures after { core_of C.WordCipher self.new ≡ placed (head_of header) (core_of C.WordCipher self.old) }
-        ensures suite { suite_of C.WordCipher self.new.cipher ≡ suite_of C.WordCipher self.old.cipher }
+        ensures { Turned C.WordCipher (placed (head_of header)) self.old self.new }
     {
         self.program = Some(header);
     }
@@ -113,15 +110,14 @@ impl<C: WordCipher> Core<C> {
         if address % 4 != 0 {
             return Err(Refusal::Odd { address });
         }
-        let Some(program) = self.program else {
-            return Err(Refusal::OffMap { address });
-        };
-        let word = address / 4;
+        let off_map = Refusal::OffMap { address };
+        let program = self.program.ok_or(off_map)?;
         let reach = program.count().min(memory.slots());
-        if word < program.base() || word - program.base() >= reach {
-            return Err(Refusal::OffMap { address });
-        }
-        self.open_slot(memory, program.version(), address, word - program.base())
+        let slot = (address / 4)
+            .checked_sub(program.base())
+            .filter(|slot| *slot < reach)
+            .ok_or(off_map)?;
+        self.open_slot(memory, program.version(), address, slot)
             .ok_or(Refusal::Rejected { address })
     }
 }
