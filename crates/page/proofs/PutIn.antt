@@ -3,6 +3,7 @@ use Rattle.std.proofs.Common.{◌≡◌, ℕ, ◌+◌, ◌*◌, ◌^◌, ◌<◌
 use Rattle.std.proofs.lemmas.List.FromFn.{fill_by_all, length-map-range_with_len, get_or-map-range_with_len}
 use Rattle.std.proofs.lemmas.List.{get_or-take, get_or-drop, length-take-le, length-drop}
 use Rattle.std.proofs.lemmas.Bool.{lt-ltb, le-ltb, eq-eqb, and_from, cases_lt}
+use Rattle.std.specs.Option.{unwrap_or}
 use Rattle.refusal.specs.declared.Refusal.{Refusal}
 use Rattle.refusal.specs.declared.Refusal.TheVariants.{PastEnd, Foreign}
 use Rattle.cipher.specs.Word.{fits_mode, mode_number, tweak_of, Lawful}
@@ -15,7 +16,7 @@ use Rattle.life.specs.Checks.{foul_from}
 use Rattle.shore.specs.Drafting.{KeyedCipher, encryption, head_for}
 use Rattle.shore.specs.Making.{Made, encryptions}
 use Rattle.shore.proofs.Making.{proper, made_head, made_record, made_words, made_is_image}
-use Rattle.page.specs.Showing.{coding_of, opened, or_zero, past_refusal, shown_refusal, page_refusal, word_at, shown_words, unless_refused, page_words}
+use Rattle.page.specs.Showing.{coding_of, opened, past_refusal, shown_refusal, page_refusal, word_at, shown_words, unless_refused, page_words}
 use Rattle.page.specs.Laws.{ShowsDecryptions, RefusedOnlyPastEnd, ShowsWhatWasPutIn}
 use Rattle.life.proofs.Foul.{none_foul, all_open}
 
@@ -29,10 +30,10 @@ shows_decryptions c image first words before long e accepted j l =
     let clean = (both_none (past_refusal h.count first n) (foul_from (opened c image h) first n) fits).1 in
     let shown : words ≡ shown_words c image h first n =
     e ∙ ap (page_words c image first) (sym long) ∙ ap (λ (o : Option Refusal). unless_refused o n (shown_words c image h first n)) accepted in
-    let word : get_or words j 0 ≡ or_zero (opened c image h (first + j)) =
+    let word : get_or words j 0 ≡ unwrap_or (opened c image h (first + j)) 0 =
     ap (λ (ws : List ℕ). get_or ws j 0) shown ∙ get_or-map-range_with_len (word_at c image h first) 0 n j j 0 l (omega arith) in
     let open_at = all_open (opened c image h) first n (first + j) clean (omega arith) (omega arith) in
-    open_at.1 ∙ ap Some (sym (word ∙ ap or_zero open_at.1))
+    open_at.1 ∙ ap Some (sym (word ∙ ap (λ (o : Option ℕ). unwrap_or o 0) open_at.1))
 
 module _ (c : KeyedCipher) (fits : fits_mode c.mode c.tag ≡ true) (lawful : Lawful c.rule c.mode c.tag) (keyed : c.key < 2 ^ 128)
     (image : List ℕ) (small : (k : ℕ) → get_or image k 0 < 256) where
@@ -109,7 +110,7 @@ module _ (c : KeyedCipher) (fits : fits_mode c.mode c.tag ≡ true) (lawful : La
           ap (λ (o : Option Refusal). unless_refused o n (shown_words c image (head_in image) first n)) (none_refused l)
           ∙ sym (fill_by_all (word_at c image (head_in image) first) (take n (drop first is)) n 0
           (length-take-le n (drop first is) (omega (arith, length-drop first is)))
-          (λ k u. get_or-take n (drop first is) k 0 u ∙ get_or-drop first is k 0 ∙ sym (ap or_zero (opens (first + k) (omega arith)))))
+          (λ k u. get_or-take n (drop first is) k 0 u ∙ get_or-drop first is k 0 ∙ sym (ap (λ (o : Option ℕ). unwrap_or o 0) (opens (first + k) (omega arith)))))
 
   pub refused_only_past_end : (first n : ℕ) → RefusedOnlyPastEnd c image first n
   refused_only_past_end first n v b is made = refusal_is v b is made first n

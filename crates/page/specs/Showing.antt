@@ -1,6 +1,7 @@
 -- When a page is refused, and what it shows.
-use Rattle.std.specs.Prelude.{◌≡◌, ℕ, ◌+◌, cond, List, map, length, replicate, position, Some, None, Option, ◌==◌, nat_lt, slice_index}
-use Rattle.std.specs.List.{range_with_len}
+use Rattle.std.specs.Prelude.{◌≡◌, ℕ, ◌+◌, cond, List, map, length, replicate, position, Some, None, Option, ◌==◌, nat_lt}
+use Rattle.std.specs.List.{range_with_len, slice_get}
+use Rattle.std.specs.Option.{unwrap_or}
 use Rattle.refusal.specs.declared.Refusal.{Refusal}
 use Rattle.refusal.specs.declared.Refusal.TheVariants.{PastEnd}
 use Rattle.image.specs.Layout.{Head}
@@ -39,13 +40,9 @@ abbrev pub page_refusal : KeyedCipher → List ℕ → ℕ → ℕ → Option Re
 page_refusal c bytes first n = or_else (refusal_of bytes) (shown_refusal c bytes (head_in bytes) first n)
 
 -- ---- the words
-abbrev pub or_zero : Option ℕ → ℕ
-or_zero (Some i) = i
-or_zero None = 0
-
--- word j is the instruction that record first + j decrypts to
+-- word j is the instruction that record first + j decrypts to, and zero where it decrypts to none
 abbrev pub word_at : KeyedCipher → List ℕ → Head → ℕ → ℕ → ℕ
-word_at c bytes h first j = or_zero (opened c bytes h (first + j))
+word_at c bytes h first j = unwrap_or (opened c bytes h (first + j)) 0
 
 abbrev pub shown_words : KeyedCipher → List ℕ → Head → ℕ → ℕ → List ℕ
 shown_words c bytes h first n = map (word_at c bytes h first) (range_with_len 0 n)
@@ -63,7 +60,7 @@ Zero words = words ≡ replicate (length words) 0
 
 -- the word at a place, and zero past the last
 abbrev pub word_or_zero : List ℕ → ℕ → ℕ
-word_or_zero words j = cond (nat_lt j (length words)) (slice_index words j) 0
+word_or_zero words j = unwrap_or (slice_get words j) 0
 
 -- the place of the first word that is w
 abbrev pub place_of : ℕ → List ℕ → Option ℕ

@@ -57,6 +57,5 @@ pub fn check_page<C: WordCipher>(
     ensures answer { result_err result ≡ page_refusal (keyed_by C.WordCipher cipher.now) image.now first length }
     ensures made { RefusedOnlyPastEnd (keyed_by C.WordCipher cipher.now) image.now first length }
 {
-    checked(cipher, image, first, length)?;
-    Ok(())
+    checked(cipher, image, first, length).map(|_| ())
 }
