@@ -51,8 +51,7 @@ impl<'a, C: WordCipher> Sealed<'a, C> {
     pub fn check(&self, records: Range<u32>) -> Result<(), Refusal>
         ensures { result_err result ≡ foul_from (opens C.WordCipher self.now) records.start (records.end - records.start) }
     {
-        // Stays: over `records` itself the proof has the steps of an iterator in place of the index.
-        for index in records.start..records.end {
+        for index in records {
             if self.open(index).is_none() {
                 return Err(Refusal::FoulRecord { index });
             }
