@@ -30,6 +30,7 @@ pub fn run_chilow<M: Memory>(
     perform_all(cipher, memory, calls, answers)
 }
 
+// Stays: with the lemma named on `run_chilow` the check finds no proof, and an answer there hides a bug in the call.
 // The same, by what the trait says of ChiLow.
 fn perform_all<M: Memory>(
     cipher: ChiLow,

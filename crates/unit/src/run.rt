@@ -21,7 +21,7 @@ pub fn run<C: WordCipher, M: Memory>(
     ensures kept { Keeps C.WordCipher M.Memory cipher memory result }
 {
     let mut unit = Unit::new(cipher, memory);
-    // Stays: after a zip with `iter_mut` nothing is known of the answers written, so a place's call is had by its number.
+    // Stays: after a zip with `iter_mut` nothing is known of the answers written, so a call is had by its place.
     for (n, answer) in answers.iter_mut().enumerate() {
         let Some(call) = calls.get(n) else {
             break;
