@@ -24,5 +24,9 @@ pub fn find_instruction<C: WordCipher>(
 {
     check_page(cipher, image, first, buffer.len())?;
     let page = Page::new(cipher, image, first, buffer);
-    Ok(page.place_of(instruction))
+    // Stays: two ways out in place of one, since a page has to be wiped on an early return too.
+    let Some(place) = page.place_of(instruction) else {
+        return Ok(None);
+    };
+    Ok(Some(place))
 }

@@ -42,7 +42,7 @@ pub record Worked : Type 0 where
 
 -- what the code computes of the same inputs
 abbrev pub traced : Path → State
-traced p = get_or (rows p 0xFEDCBA98765432107766554433221100 0x0011223344556677 0x01234567) 0 (vector p)
+traced p = get_or (rows p 0xFEDCBA98765432107766554433221100 0x0011223344556677 0x01234567) 0 (record { block = 0; tweak = 0; key = 0 })
 
 abbrev pub defined : List ℕ
 defined =
