@@ -1,5 +1,5 @@
 // Opening a draft, putting its words, closing it.
-ghost use Rattle.std.specs.Prelude.{◌≡◌, ◌+◌, ◌<◌, OnOk};
+ghost use Rattle.std.specs.Prelude.{◌≡◌, ◌+◌, ◌<◌, Some, None, IfOk, IfErr, OnOk};
 ghost use Rattle.std.specs.Result.{result_err};
 ghost use Rattle.image.specs.Reading.{head_of};
 ghost use Rattle.shore.specs.Drafting.{keyed_by, short_refusal, put_refusal, close_refusal, encryption, Opens, Puts, Closes};
@@ -43,15 +43,8 @@ impl Draft {
     ) -> Result<Draft, HandedBack>
         ensures { Puts (keyed_by C.WordCipher cipher.now) self instruction buffer.old buffer.new result }
     {
-        // Stays: `map_err` with `?` would move the draft into its closure where nothing is refused too.
-        if let Err(refusal) = self.check_put(cipher, buffer) {
-            return Err(HandedBack {
-                draft: self,
-                refusal,
-            });
-        }
-        let header = self.header;
-        let put = self.put;
+        let checked = self.check_put(cipher, buffer);
+        let Draft { header, put } = self.or_back(checked)?;
         let address = 4 * (header.base() + put);
         let stored = cipher.encrypt(tweak_of(header.version(), address), instruction);
         write_record(&header, put, stored, buffer);
@@ -72,13 +65,8 @@ impl Draft {
     fn finish(self, buffer: &mut [u8]) -> Result<ClosedDraft, HandedBack>
         ensures { Closes self buffer.old buffer.new result }
     {
-        if let Err(refusal) = self.check_close(buffer) {
-            return Err(HandedBack {
-                draft: self,
-                refusal,
-            });
-        }
-        let header = self.header;
+        let checked = self.check_close(buffer);
+        let header = self.or_back(checked)?.header;
         write_pad(&header, buffer);
         Ok(ClosedDraft {
             version: header.version(),
@@ -86,6 +74,20 @@ impl Draft {
             count: header.count(),
             length: header.image_length(),
         })
+    }
+
+    // The draft where the check passed, and else handed back with the refusal.
+    fn or_back(self, checked: Result<(), Refusal>) -> Result<Draft, HandedBack>
+        ensures passed { IfOk result (λ draft. (result_err checked ≡ None) × (draft ≡ self)) }
+        ensures back { IfErr result (λ back. (result_err checked ≡ Some back.refusal) × (back.draft ≡ self)) }
+    {
+        match checked {
+            Ok(()) => Ok(self),
+            Err(refusal) => Err(HandedBack {
+                draft: self,
+                refusal,
+            }),
+        }
     }
 
     // Whether the next word can be put, or the first refusal that fits.

@@ -43,7 +43,7 @@ fn draft_all<C: WordCipher>(
 
 // Puts the instructions one after the other, where there is room for all of them.
 fn put_all<C: WordCipher>(
-    draft: Draft,
+    mut draft: Draft,
     cipher: &C,
     instructions: &[u32],
     buffer: &mut [u8],
@@ -54,7 +54,6 @@ fn put_all<C: WordCipher>(
     ensures all { MatchResult result (λ e. PutAll (keyed_by C.WordCipher cipher.now) draft buffer.old instructions.now e buffer.new) (λ _. ⊥) }
     ensures full { IfOk result (λ e. (draft_head e ≡ draft_head draft) × (e.put ≡ draft.put + length instructions.now)) }
 {
-    let mut draft = draft;
     for instruction in instructions {
         draft = draft.put(cipher, *instruction, buffer)?;
     }
