@@ -34,7 +34,9 @@ fn lend<'a>(
     low: &'a mut [u16],
     told: &mut anyhow::Result<()>,
 ) -> Board<'a>
-    ensures lent { (result.bytes.ghost_name ≡ bytes.entry.ghost_name) × (result.high.ghost_name ≡ high.entry.ghost_name) × (result.low.ghost_name ≡ low.entry.ghost_name) }
+    ensures lent_bytes { result.bytes.ghost_name ≡ bytes.entry.ghost_name }
+    ensures lent_high { result.high.ghost_name ≡ high.entry.ghost_name }
+    ensures lent_low { result.low.ghost_name ≡ low.entry.ghost_name }
     ensures left { left_over result.bytes.now ≡ left_over bytes.old }
     ensures highs { surplus_high result.high.now result.low.now ≡ surplus_high high.old low.old }
     ensures lows { surplus_low result.high.now result.low.now ≡ surplus_low high.old low.old }
