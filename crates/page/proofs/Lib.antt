@@ -1,2 +1,3 @@
-pub mod Trying
+pub mod Finding
 pub mod PutIn
+pub mod Trying

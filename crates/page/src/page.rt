@@ -1,7 +1,7 @@
 // A page: a guard over lent words, which shows clear instructions and wipes them when it is given up.
 ghost use Rattle.std.specs.Prelude.{◌≡◌, length};
 ghost use Rattle.shore.specs.Drafting.{keyed_by};
-ghost use Rattle.page.specs.Showing.{page_words, Zero, word_or_zero, place_of};
+ghost use Rattle.page.specs.Showing.{page_words, Zero, word_or_zero};
 ghost use Rattle.page.specs.Laws.{ShowsDecryptions, ShowsWhatWasPutIn};
 
 use crate::fill::{fill, wipe};
@@ -52,12 +52,5 @@ impl Page<'_> {
         ensures { result ≡ word_or_zero self.now.words.now index }
     {
         self.words.get(index).copied().unwrap_or(0)
-    }
-
-    // The place of the first word that is `instruction`.
-    pub(crate) fn place_of(&self, instruction: u32) -> Option<usize>
-        ensures { result ≡ place_of instruction self.now.words.now }
-    {
-        self.words.iter().position(|word| *word == instruction)
     }
 }

@@ -24,9 +24,11 @@ pub fn find_instruction<C: WordCipher>(
 {
     check_page(cipher, image, first, buffer.len())?;
     let page = Page::new(cipher, image, first, buffer);
-    // Stays: two ways out in place of one, since a page has to be wiped on an early return too.
-    let Some(place) = page.place_of(instruction) else {
-        return Ok(None);
-    };
-    Ok(Some(place))
+    // Stays: the page is asked for each word; with an iterator over its words, what the buffer holds in the end is not proved.
+    for place in 0..page.len() {
+        if page.word(place) == instruction {
+            return Ok(Some(place));
+        }
+    }
+    Ok(None)
 }
