@@ -30,22 +30,24 @@ impl ChiLow {
     pub fn new(mode: Mode, tag_length: u32) -> Result<ChiLow, Refusal>
         ensures { MatchResult result (λ c. (c.mode ≡ mode) × (c.tag_bits ≡ tag_length) × (c.key ≡ 0)) (λ e. (e ≡ BadTagLength) × (fits_mode mode tag_length ≡ false)) }
     {
-        ChiLow::keyed(mode, tag_length, 0)
-    }
-
-    /// A cipher with a key, or a refusal where a tag of that mode cannot have that many bits.
-    pub fn keyed(mode: Mode, tag_length: u32, key: u128) -> Result<ChiLow, Refusal>
-        ensures { MatchResult result (λ c. (c.mode ≡ mode) × (c.tag_bits ≡ tag_length) × (c.key ≡ key)) (λ e. (e ≡ BadTagLength) × (fits_mode mode tag_length ≡ false)) }
-    {
         if !mode.fits(tag_length) {
             return Err(Refusal::BadTagLength);
         }
         Ok(ChiLow {
             mode,
             tag_bits: tag_length,
-            key,
-            keys: key_schedule(mode, key),
+            key: 0,
+            keys: key_schedule(mode, 0),
         })
+    }
+
+    /// A cipher with a key, or a refusal where a tag of that mode cannot have that many bits.
+    pub fn keyed(mode: Mode, tag_length: u32, key: u128) -> Result<ChiLow, Refusal>
+        ensures { MatchResult result (λ c. (c.mode ≡ mode) × (c.tag_bits ≡ tag_length) × (c.key ≡ key)) (λ e. (e ≡ BadTagLength) × (fits_mode mode tag_length ≡ false)) }
+    {
+        let mut cipher = ChiLow::new(mode, tag_length)?;
+        cipher.load(key);
+        Ok(cipher)
     }
 
     /// The instruction of a stored number, by the published decryption, or nothing where it is rejected.
