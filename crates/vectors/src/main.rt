@@ -11,6 +11,7 @@ use paths::decrypt::trace_of;
 use paths::path::Path;
 use published::{BLOCK, ROWS, TAGGED, Vector};
 use std::alloc::{AllocError, Global};
+use std::fmt::InlineText;
 use words::print_words;
 
 const KEY: u128 = 0xFEDC_BA98_7654_3210_7766_5544_3322_1100;
@@ -102,8 +103,10 @@ fn cells_of<const N: usize>(
 
 fn print_cells(rt: &HostRuntime, cells: &[Cell]) -> anyhow::Result<()> {
     for cell in cells {
-        let row = cell.row.to_string(rt.alloc())?;
-        let column = cell.column.to_string(rt.alloc())?;
+        let row = InlineText::<9>::of(cell.row);
+        let row = row.as_str();
+        let column = InlineText::<6>::of(cell.column);
+        let column = column.as_str();
         let digits = cell.column.digits();
         let computed = cell.computed;
         let published = cell.published;

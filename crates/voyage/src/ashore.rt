@@ -26,31 +26,47 @@ pub(crate) fn adding_down_from(first: u8) -> [u32; 8] {
 }
 
 /// The images of a voyage: versions 7 and 8 of the program, version 9 with a bit turned over, and version 7 made with
-/// another cipher.
-#[derive(Drop)]
-pub struct Cargo {
-    pub(crate) seventh: Vec<u8>,
-    pub(crate) eighth: Vec<u8>,
-    pub(crate) damaged: Vec<u8>,
-    pub(crate) foreign: Vec<u8>,
+/// another cipher. Each stands in a lent buffer.
+#[derive(Clone, Copy)]
+pub struct Cargo<'a> {
+    pub(crate) seventh: &'a [u8],
+    pub(crate) eighth: &'a [u8],
+    pub(crate) damaged: &'a [u8],
+    pub(crate) foreign: &'a [u8],
 }
 
-/// Makes the images of a voyage, and shows the first.
-pub(crate) fn make_cargo<C: WordCipher>(
+/// What each image of a voyage is made in.
+#[derive(Drop)]
+pub struct Buffers<'a> {
+    pub(crate) seventh: &'a mut [u8],
+    pub(crate) eighth: &'a mut [u8],
+    pub(crate) damaged: &'a mut [u8],
+    pub(crate) foreign: &'a mut [u8],
+}
+
+/// Makes the images of a voyage in the buffers, and shows the first.
+pub(crate) fn make_cargo<'a, C: WordCipher>(
     rt: &HostRuntime,
     cipher: &C,
     foreign: &C,
-) -> anyhow::Result<Cargo> {
+    buffers: Buffers<'a>,
+) -> anyhow::Result<Cargo<'a>> {
+    let Buffers {
+        seventh,
+        eighth,
+        damaged: third,
+        foreign: fourth,
+    } = buffers;
     Ok(Cargo {
-        seventh: both_ways(rt, cipher)?,
-        eighth: make_at_once(rt, cipher, 8, 20)?,
-        damaged: damaged(make_at_once(rt, cipher, 9, 20)?),
-        foreign: make_at_once(rt, foreign, 7, 10)?,
+        seventh: both_ways(rt, cipher, seventh)?,
+        eighth: make_at_once(cipher, 8, 20, eighth)?,
+        damaged: damaged(make_at_once(cipher, 9, 20, third)?),
+        foreign: make_at_once(foreign, 7, 10, fourth)?,
     })
 }
 
 /// An image with a bit of its records turned over.
-fn damaged(mut image: Vec<u8>) -> Vec<u8> {
+fn damaged(image: &mut [u8]) -> &[u8] {
     if let Some(byte) = image.get_mut(30) {
         *byte ^= 0x10;
     }
@@ -66,15 +82,19 @@ pub(crate) fn record(image: &[u8], index: u32) -> u64 {
 }
 
 /// The image of version 7, by a draft and at once.
-fn both_ways<C: WordCipher>(rt: &HostRuntime, cipher: &C) -> anyhow::Result<Vec<u8>> {
-    let mut drafted = vec![in rt.alloc(); 0xFF; 64]?;
-    let closed = draft(cipher, 7, &adding_down_from(10), &mut drafted)?;
+fn both_ways<'a, C: WordCipher>(
+    rt: &HostRuntime,
+    cipher: &C,
+    buffer: &'a mut [u8],
+) -> anyhow::Result<&'a [u8]> {
+    let closed = draft(cipher, 7, &adding_down_from(10), buffer)?;
     print_closed(rt, &closed)?;
-    drafted.truncate(closed.length() as usize);
-    let made = make_at_once(rt, cipher, 7, 10)?;
+    let drafted: &[u8] = image_in(buffer, &closed);
+    let mut other = [0u8; 64];
+    let made: &[u8] = make_at_once(cipher, 7, 10, &mut other)?;
     let same = if made == drafted { "the same" } else { "OTHER" };
     println!(rt; "image made at once: {same} bytes")?;
-    print_words(rt, &made, 2)?;
+    print_words(rt, made, 2)?;
     Ok(drafted)
 }
 
@@ -101,15 +121,19 @@ fn draft<C: WordCipher>(
     Ok(draft.close(buffer)?)
 }
 
-/// The image of the program that adds up from the first number.
-fn make_at_once<C: WordCipher>(
-    rt: &HostRuntime,
+/// The image of the program that adds up from the first number, made in a buffer.
+fn make_at_once<'a, C: WordCipher>(
     cipher: &C,
     version: u32,
     first: u8,
-) -> anyhow::Result<Vec<u8>> {
-    let mut image = vec![in rt.alloc(); 0; 64]?;
-    let closed = make_image(cipher, version, BASE, &adding_down_from(first), &mut image)?;
-    image.truncate(closed.length() as usize);
-    Ok(image)
+    buffer: &'a mut [u8],
+) -> Result<&'a mut [u8], Refusal> {
+    let closed = make_image(cipher, version, BASE, &adding_down_from(first), buffer)?;
+    Ok(image_in(buffer, &closed))
+}
+
+/// The image that was closed in a buffer.
+fn image_in<'a>(buffer: &'a mut [u8], closed: &ClosedDraft) -> &'a mut [u8] {
+    let length = buffer.len().min(closed.length() as usize);
+    &mut buffer[..length]
 }

@@ -28,7 +28,7 @@ pub struct Board<'a> {
 fn lend<'a>(
     rt: &HostRuntime,
     cipher: ChiLow,
-    cargo: &Cargo,
+    cargo: &Cargo<'_>,
     bytes: &'a mut [u8],
     high: &'a mut [u32],
     low: &'a mut [u16],
@@ -55,7 +55,7 @@ fn both_lives<M: Memory>(
     rt: &HostRuntime,
     cipher: ChiLow,
     memory: M,
-    cargo: &Cargo,
+    cargo: &Cargo<'_>,
 ) -> (M, anyhow::Result<()>)
     ensures { M.rest result.0 ≡ M.rest memory }
 {
@@ -77,7 +77,7 @@ fn between<M: Memory>(rt: &HostRuntime, memory: &M) -> anyhow::Result<()> {
 pub(crate) fn sail(
     rt: &HostRuntime,
     cipher: ChiLow,
-    cargo: &Cargo,
+    cargo: &Cargo<'_>,
     bytes: &mut [u8],
     high: &mut [u32],
     low: &mut [u16],

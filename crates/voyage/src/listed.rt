@@ -15,7 +15,7 @@ pub(crate) fn tell_list<M: Memory>(
     rt: &HostRuntime,
     cipher: ChiLow,
     memory: M,
-    cargo: &Cargo,
+    cargo: &Cargo<'_>,
 ) -> (M, anyhow::Result<()>)
     ensures { M.rest result.0 ≡ M.rest memory }
 {
@@ -24,17 +24,17 @@ pub(crate) fn tell_list<M: Memory>(
         Call::load(KEY),
         Call::fetch(0x1000),
         Call::Install {
-            image: &cargo.eighth,
+            image: cargo.eighth,
         },
         Call::fetch(0x1000),
         Call::fetch(0x101C),
         Call::Install {
-            image: &cargo.seventh,
+            image: cargo.seventh,
         },
         Call::overwrite(11, 0),
         Call::overwrite(10, 0x1_0000_0000_0000),
         Call::overwrite(10, 0xFFFF_FFFF_FFFF),
-        Call::overwrite(2, record(&cargo.eighth, 3)),
+        Call::overwrite(2, record(cargo.eighth, 3)),
         Call::fetch(0x1008),
     ];
     let mut answers = [Answer::Done; 12];

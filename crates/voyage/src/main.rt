@@ -7,7 +7,7 @@ mod listed;
 mod show;
 mod story;
 
-use ashore::{Cargo, KEY, make_cargo};
+use ashore::{Buffers, Cargo, KEY, make_cargo};
 use board::sail;
 use chilow::word_cipher::ChiLow;
 use cipher::{Mode, WordCipher};
@@ -35,7 +35,17 @@ fn voyage(
 ) -> anyhow::Result<()> {
     let cipher = keyed_cipher(mode, tag_length)?;
     let foreign = keyed_cipher(Mode::Tagged, foreign_length)?;
-    let cargo = make_cargo(rt, &cipher, &foreign)?;
+    let mut seventh = [0xFFu8; 64];
+    let mut eighth = [0u8; 64];
+    let mut damaged = [0u8; 64];
+    let mut other = [0u8; 64];
+    let buffers = Buffers {
+        seventh: &mut seventh,
+        eighth: &mut eighth,
+        damaged: &mut damaged,
+        foreign: &mut other,
+    };
+    let cargo = make_cargo(rt, &cipher, &foreign, buffers)?;
     at_sea(rt, ChiLow::new(mode, tag_length)?, &cargo)
 }
 
@@ -47,7 +57,7 @@ fn keyed_cipher(mode: Mode, tag_length: u32) -> Result<ChiLow, Refusal> {
 }
 
 /// The voyage on three chips, and what they hold when the unit is gone.
-fn at_sea(rt: &HostRuntime, cipher: ChiLow, cargo: &Cargo) -> anyhow::Result<()> {
+fn at_sea(rt: &HostRuntime, cipher: ChiLow, cargo: &Cargo<'_>) -> anyhow::Result<()> {
     let mut bytes = [0xEEu8; 34];
     let mut high = [0xDDDD_DDDDu32; 7];
     let mut low = [0xCCCCu16; 6];

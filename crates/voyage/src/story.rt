@@ -21,7 +21,7 @@ enum Step<'a> {
 pub(crate) fn tell<C: WordCipher, M: Memory>(
     rt: &HostRuntime,
     unit: &mut Unit<C, M>,
-    cargo: &Cargo,
+    cargo: &Cargo<'_>,
 ) -> anyhow::Result<()>
     ensures { M.rest unit.new.memory ≡ M.rest unit.old.memory }
 {
@@ -33,31 +33,31 @@ pub(crate) fn tell<C: WordCipher, M: Memory>(
     show_all(rt, unit, "a new key", &new_key(cargo))
 }
 
-fn first_key(cargo: &Cargo) -> [Step<'_>; 8] {
+fn first_key<'a>(cargo: &Cargo<'a>) -> [Step<'a>; 8] {
     [
         Step::Status,
         fetch(0x1000),
         load(),
         load(),
         fetch(0x1000),
-        install(&cargo.seventh),
+        install(cargo.seventh),
         Step::FetchAll,
         Step::Status,
     ]
 }
 
-fn no_strikes(cargo: &Cargo) -> [Step<'_>; 5] {
+fn no_strikes<'a>(cargo: &Cargo<'a>) -> [Step<'a>; 5] {
     [
         fetch(0xFFC),
         fetch(0x1020),
         fetch(0x1002),
-        install(&cargo.foreign),
+        install(cargo.foreign),
         Step::Status,
     ]
 }
 
-fn stranger(cargo: &Cargo) -> [Step<'_>; 5] {
-    let old = record(&cargo.seventh, 1);
+fn stranger<'a>(cargo: &Cargo<'a>) -> [Step<'a>; 5] {
+    let old = record(cargo.seventh, 1);
     [
         overwrite(1, old ^ 1),
         fetch(0x1004),
@@ -67,20 +67,20 @@ fn stranger(cargo: &Cargo) -> [Step<'_>; 5] {
     ]
 }
 
-fn newer_version(cargo: &Cargo) -> [Step<'_>; 4] {
+fn newer_version<'a>(cargo: &Cargo<'a>) -> [Step<'a>; 4] {
     [
-        install(&cargo.eighth),
+        install(cargo.eighth),
         fetch(0x1000),
-        install(&cargo.seventh),
+        install(cargo.seventh),
         Step::Status,
     ]
 }
 
-fn four_rejections(cargo: &Cargo) -> [Step<'_>; 8] {
+fn four_rejections<'a>(cargo: &Cargo<'a>) -> [Step<'a>; 8] {
     [
-        install(&cargo.damaged),
+        install(cargo.damaged),
         Step::Status,
-        overwrite(6, record(&cargo.eighth, 5)),
+        overwrite(6, record(cargo.eighth, 5)),
         overwrite(9, 0x1234_5678_9ABC),
         fetch(0x1018),
         fetch(0x1018),
@@ -89,12 +89,12 @@ fn four_rejections(cargo: &Cargo) -> [Step<'_>; 8] {
     ]
 }
 
-fn new_key(cargo: &Cargo) -> [Step<'_>; 6] {
+fn new_key<'a>(cargo: &Cargo<'a>) -> [Step<'a>; 6] {
     [
         load(),
         fetch(0x1000),
         Step::Status,
-        install(&cargo.seventh),
+        install(cargo.seventh),
         fetch(0x1000),
         Step::Status,
     ]
