@@ -43,17 +43,17 @@ module _ {F C : Type 0} (g : Mut F (C × (ℕ × Unit {0})) C) (f : F) (P : ℕ 
       fold_over nat_range_steps (λ x. x) g so_far f (λ xs c x d f' so called. (turn xs c x d f' so called, keeps c x d f' called))
       s (range_with_len a n) init r (YieldsList-from_range a b n e long).runs (none init start) ran n (omega arith) refl
 
--- a number made of bits, each set at its place
+-- a number made of bits, each set at its place, where none was set before
 module _ {F : Type 0} (g : Mut F (ℕ × (ℕ × Unit {0})) ℕ) (f : F) (n : ℕ) (bits : ℕ → Bool) (room : n ≤ 128)
     (keeps : (r i s : ℕ) (f' : F) → Called g f (r, (i, tt)) s f' → f' ≡ f)
-    (sets : (r i s : ℕ) (f' : F) → i < n → Called g f (r, (i, tt)) s f' → SetsBit r s i (bits i)) where
+    (sets : (r i s : ℕ) (f' : F) → i < n → bit r i ≡ false → Called g f (r, (i, tt)) s f' → SetsBit r s i (bits i)) where
   -- the bits below k are set
   abbrev Below : ℕ → ℕ → Type 0
   Below k r = ((j : ℕ) → j < k → bit r j ≡ bits j) × ((j : ℕ) → k ≤ j → bit r j ≡ false)
 
   one_more_bit : (k r s : ℕ) (f' : F) → k < n → Below k r → Called g f (r, (0 + k, tt)) s f' → Below (suc k) s
   one_more_bit k r s f' l b called =
-      let t = sets r k s f' l (subst (λ (z : ℕ). Called g f (r, (z, tt)) s f') (zero-add k) called) in (
+      let t = sets r k s f' l (b.1 k (omega arith)) (subst (λ (z : ℕ). Called g f (r, (z, tt)) s f') (zero-add k) called) in (
         λ j u. elim (cases_eq j k) [
           | inl e ↦ ap (bit s) e ∙ t.same (omega arith) ∙ ap bits (sym e)
           | inr e ↦ t.others j e ∙ b.0 j (omega (arith, e))

@@ -25,11 +25,18 @@ pub enum DataMap {
 }
 
 /// That map of a state; bits above its width are not read.
+// Stays: each arm applies its own map, so that the compiler knows its numbers: one call after the match divides for each bit.
 pub fn apply(map: LinearMap, x: u128) -> u128
     ensures is { result ≡ map_of map x }
     ensures fits { result < 2 ^ map_size map }
 {
-    map.circulant().apply(x)
+    match map {
+        LinearMap::Data32 => Circulant::new(32, 11, &[5, 9, 12]).apply(x),
+        LinearMap::Tag32 => Circulant::new(32, 11, &[1, 26, 30]).apply(x),
+        LinearMap::Data40 => Circulant::new(40, 17, &[1, 9, 30]).apply(x),
+        LinearMap::Tweak64 => Circulant::new(64, 3, &[1, 26, 50]).apply(x),
+        LinearMap::Key128 => Circulant::new(128, 17, &[7, 11, 14]).apply(x),
+    }
 }
 
 /// The one state whose map is `y`; bits of `y` above its width are not read.
@@ -42,7 +49,10 @@ pub fn apply_inverse(map: DataMap, y: u128) -> u128
     ensures undone { MapUndone }
     ensures undoes { MapUndoes }
 {
-    map.inverse().apply(y)
+    match map {
+        DataMap::D32 => Circulant::new(32, 3, &INVERSE_32).apply(y),
+        DataMap::D40 => Circulant::new(40, 33, &INVERSE_40).apply(y),
+    }
 }
 
 // The offsets of the inverses.
@@ -53,33 +63,6 @@ const INVERSE_32: [u8; 17] = [
 const INVERSE_40: [u8; 23] = [
     2, 4, 6, 7, 8, 10, 11, 13, 14, 17, 18, 19, 21, 22, 23, 29, 31, 32, 33, 36, 37, 38, 39,
 ];
-
-impl LinearMap {
-    fn circulant(self) -> Circulant
-        ensures size { result.size ≡ map_size self }
-        ensures is { linear_of result.size result.factor result.offsets.now ≡ map_of self }
-    {
-        match self {
-            LinearMap::Data32 => Circulant::new(32, 11, &[5, 9, 12]),
-            LinearMap::Tag32 => Circulant::new(32, 11, &[1, 26, 30]),
-            LinearMap::Data40 => Circulant::new(40, 17, &[1, 9, 30]),
-            LinearMap::Tweak64 => Circulant::new(64, 3, &[1, 26, 50]),
-            LinearMap::Key128 => Circulant::new(128, 17, &[7, 11, 14]),
-        }
-    }
-}
-
-impl DataMap {
-    fn inverse(self) -> Circulant
-        ensures size { result.size ≡ map_size (forward self) }
-        ensures is { linear_of result.size result.factor result.offsets.now ≡ inverse_of self }
-    {
-        match self {
-            DataMap::D32 => Circulant::new(32, 3, &INVERSE_32),
-            DataMap::D40 => Circulant::new(40, 33, &INVERSE_40),
-        }
-    }
-}
 
 // Bit i of its result is the exclusive or of bits (factor * i + offset) mod size, over the offsets.
 #[derive(Clone, Copy)]
@@ -110,7 +93,13 @@ impl Circulant {
         ensures is { result ≡ linear_of self.size self.factor self.offsets.now x }
         ensures fits { result < 2 ^ self.size }
     {
-        (0..self.size).fold(0, |r, i| with_bit(r, u32::from(i), self.bit(x, i)))
+        (0..self.size).fold(0, |r, i| {
+            if self.bit(x, i) {
+                with_bit(r, u32::from(i), true)
+            } else {
+                r
+            }
+        })
     }
 
     fn bit(self, x: u128, i: u8) -> bool

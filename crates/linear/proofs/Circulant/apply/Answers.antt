@@ -11,5 +11,5 @@ returns c =
     let s = c.args.self in
     let is : c.fold.result ≡ linear s.size s.factor s.offsets.now c.args.x =
     number_from_fold _ _ s.size (linear_bit s.size s.factor s.offsets.now (bit c.args.x)) s.most
-    (λ r i t f' called. search rules) (λ r i t f' l called. search rules) _ refl c.fold.ensures.ran in
+    (λ r i t f' called. search rules) (λ r i t f' l unset called. search rules) _ refl c.fold.ensures.ran in
     record { is = is; fits = subst (λ (z : ℕ). z < 2 ^ s.size) (sym is) (linear_lt s.size s.factor s.offsets.now c.args.x) }

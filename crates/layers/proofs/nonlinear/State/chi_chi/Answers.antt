@@ -9,4 +9,4 @@ unfolding chichi
 returns c =
     let s = c.args.self in
     number_from_fold _ _ (s.middle + s.middle) (chi_bit s.middle (bit s.bits)) (omega arith)
-    (λ r i t f' called. search rules) (λ r i t f' l called. search rules) _ refl c.fold.ensures.ran
+    (λ r i t f' called. search rules) (λ r i t f' l unset called. search rules) _ refl c.fold.ensures.ran
