@@ -4,10 +4,11 @@ ghost use Rattle.command.specs.Digits.{is_digit, digit_of, value_of, byte_of, by
 
 /// Whether a byte is a digit: 0 to 9, or A to F.
 // Stays: `is_ascii_hexdigit` and `to_digit` take a to f too, so neither is plainer with the test that rules those out.
+// Two tests: one of both ranges, as a match in `digit_of`, is compiled to branches that are mistaken at every other digit.
 pub fn is_digit(byte: u8) -> bool
     ensures { result ≡ is_digit byte }
 {
-    matches!(byte, b'0'..=b'9' | b'A'..=b'F')
+    matches!(byte, b'0'..=b'9') || matches!(byte, b'A'..=b'F')
 }
 
 /// The value of a digit, and 0 of any other byte.
@@ -15,10 +16,12 @@ pub fn digit_of(byte: u8) -> u8
     ensures is { result ≡ digit_of byte }
     ensures small { result < 16 }
 {
+    if !is_digit(byte) {
+        return 0;
+    }
     match byte {
-        b'0'..=b'9' => byte - b'0',
-        b'A'..=b'F' => byte - b'A' + 10,
-        _ => 0,
+        ..=b'9' => byte - b'0',
+        _ => byte - b'A' + 10,
     }
 }
 
