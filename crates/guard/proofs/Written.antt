@@ -46,7 +46,7 @@ module _ (m : Mode) (τ : ℕ) (fits : fits_mode m τ ≡ true) where
   all_opened k t s =
       ⊎_elim (λ (l : s < 2 ^ 64). sym (opened_is k m τ t fits s l)) (λ (l : 2 ^ 64 ≤ s). too_wide k t s l ∙ sym (not_opened k t s l)) (cases_lt s (2 ^ 64))
 
-  written_in : coding (record { rule = chilow; mode = m; tag = τ }) ≡ published m τ
+  pub written_in : coding (record { rule = chilow; mode = m; tag = τ }) ≡ published m τ
   written_in = λ z. record { rule = chilow; mode = m; tag = τ; decrypt = λ k t s. all_opened k t s z }
 
   pub published_life : {first : ℕ} {start : List ℕ} {calls : List Call} {before answers : List Answer} {s : State}

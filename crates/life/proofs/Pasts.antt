@@ -17,7 +17,7 @@ module _ (calls : List Call) (answers : List Answer) (i : ℕ) (x : Answer) wher
       let other : n ≢ i = omega arith in
       ap₂ (λ (r : Answer) (h : List Event). event (get_or calls n (Load 0)) r ∷ h) (get_or-set_other answers i n x Done other) (past_same n (omega arith))
 
-  past_more : i < length answers → past calls (set answers i x) (i + 1) ≡ event (get_or calls i (Load 0)) x ∷ past calls answers i
+  pub past_more : i < length answers → past calls (set answers i x) (i + 1) ≡ event (get_or calls i (Load 0)) x ∷ past calls answers i
   past_more l =
       ap (past calls (set answers i x)) (add-one i)
       ∙ ap₂ (λ (r : Answer) (h : List Event). event (get_or calls i (Load 0)) r ∷ h) (get_or-set_same answers i x Done l) (past_same i (omega arith))
@@ -26,7 +26,7 @@ module _ (calls : List Call) (answers : List Answer) (i : ℕ) (x : Answer) wher
   Obeys c start rs n = Law c start (past calls rs n) (get_or calls n (Load 0)) (get_or rs n Done)
 
   -- the calls before i obey the law as they did, and so does call i with its answer
-  laws_more : (c : Coding) (start : List ℕ) → i < length answers → ((n : ℕ) → n < i → Obeys c start answers n)
+  pub laws_more : (c : Coding) (start : List ℕ) → i < length answers → ((n : ℕ) → n < i → Obeys c start answers n)
       → Law c start (past calls answers i) (get_or calls i (Load 0)) x → (n : ℕ) → n < i + 1 → Obeys c start (set answers i x) n
   laws_more c start l before now n u =
       ⊎_elim

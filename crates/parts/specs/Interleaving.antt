@@ -31,7 +31,7 @@ woven_odd (x ∷ a) (y ∷ b) zero h l = refl
 woven_odd (x ∷ a) (y ∷ b) (suc i) h l =
     let e : 2 * suc i ≡ suc (suc (2 * i)) = omega arith in rw e (woven_odd a b i (omega arith) (omega arith))
 
-length-interleaved : (a b : List ℕ) → length (interleaved a b) ≡ interleaved_count (length a) (length b)
+pub length-interleaved : (a b : List ℕ) → length (interleaved a b) ≡ interleaved_count (length a) (length b)
 unfolding interleaved
 length-interleaved a b = length-take most (woven a b) ∙ ap (λ z. min most z) (length-woven a b)
 
@@ -39,7 +39,7 @@ get_or-interleaved : (a b : List ℕ) (s : ℕ) → s < most → slice_index (in
 unfolding interleaved
 get_or-interleaved a b s h = get_or-take most (woven a b) s 0 h
 
-interleaved_laid : (a b : List ℕ) → Laid interleaved_place (interleaved_first (length a) (length b)) (interleaved_second (length a) (length b)) (interleaved a b) a b
+pub interleaved_laid : (a b : List ℕ) → Laid interleaved_place (interleaved_first (length a) (length b)) (interleaved_second (length a) (length b)) (interleaved a b) a b
 interleaved_laid a b =
     let c = length-interleaved a b in
     record {

@@ -10,7 +10,7 @@ use Rattle.parts.specs.Parts.{joined, joined_count, joined_first, joined_second}
 use Rattle.parts.specs.Places.{joined_place}
 use Rattle.parts.specs.Laws.{Laid, Arranges}
 
-length-joined : (a b : List ℕ) → length (joined a b) ≡ joined_count (length a) (length b)
+pub length-joined : (a b : List ℕ) → length (joined a b) ≡ joined_count (length a) (length b)
 unfolding joined
 length-joined a b = length-take most (a ++ b) ∙ ap (λ z. min most z) (length-append a b)
 
@@ -18,7 +18,7 @@ get_or-joined : (a b : List ℕ) (s : ℕ) → s < most → slice_index (joined 
 unfolding joined
 get_or-joined a b s h = get_or-take most (a ++ b) s 0 h
 
-joined_laid : (a b : List ℕ) → length a ≤ most → Laid (joined_place (length a)) (joined_first (length a) (length b)) (joined_second (length a) (length b)) (joined a b) a b
+pub joined_laid : (a b : List ℕ) → length a ≤ most → Laid (joined_place (length a)) (joined_first (length a) (length b)) (joined_second (length a) (length b)) (joined a b) a b
 joined_laid a b few =
     let c = length-joined a b in
     record {

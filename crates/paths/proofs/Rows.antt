@@ -95,13 +95,13 @@ module _ (p : Path) (k t x : ℕ) where
       ∙ data_ext p _ (masks p k t x) (x ⊻ whitening p k) 8 masks_are i l ∙ sym (ap (λ (s : State). s.block) (after_is p k t x i))
 
   -- the three columns of a trace
-  block_rows : table 9 (data_after p (masks_of made) (x ⊻ word_of made.keys p)) ≡ table 9 (λ i. (after p k t x i).block)
+  pub block_rows : table 9 (data_after p (masks_of made) (x ⊻ word_of made.keys p)) ≡ table 9 (λ i. (after p k t x i).block)
   block_rows = table_ext _ _ 9 (λ i l. block_row i (omega arith))
 
-  tweak_rows : made.tweaks.states ≡ table 9 (λ i. (after p k t x i).tweak)
+  pub tweak_rows : made.tweaks.states ≡ table 9 (λ i. (after p k t x i).tweak)
   tweak_rows = table_ext _ _ 9 (λ i _. tweak_row i)
 
-  key_rows : table 9 (key_after (cipher_of p) k) ≡ table 9 (λ i. (after p k t x i).key)
+  pub key_rows : table 9 (key_after (cipher_of p) k) ≡ table 9 (λ i. (after p k t x i).key)
   key_rows = table_ext _ _ 9 (λ i _. sym (key_row i))
 
   -- a row, from the three parts that the code has of it
