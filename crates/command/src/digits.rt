@@ -4,7 +4,7 @@ ghost use Rattle.command.specs.Digits.{is_digit, digit_of, value_of, byte_of, by
 
 /// Whether a byte is a digit: 0 to 9, or A to F.
 // Stays: `is_ascii_hexdigit` and `to_digit` take a to f too, so neither is plainer with the test that rules those out.
-// Two tests: one of both ranges, as a match in `digit_of`, is compiled to branches that are mistaken at every other digit.
+// Two tests: one of both ranges, as a match in `digit_of`, is compiled to branches, which mixed digits mislead.
 pub fn is_digit(byte: u8) -> bool
     ensures { result ≡ is_digit byte }
 {

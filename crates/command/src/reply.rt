@@ -80,7 +80,7 @@ impl fmt::Display for Reply {
 pub fn text_of(heap: Global, reply: Reply) -> Result<String, AllocError>
     ensures { IfOk result (λ s. string_bytes s ≡ text_of reply) }
 {
-    // Stays: the commonest text is copied as it is, since `to_string` takes half as long again for it.
+    // Stays: this text is written out, since `to_string` takes half as long again for it.
     match reply {
         Reply::Done => String::from_str(heap, "ok\n"),
         _ => reply.to_string(heap),

@@ -18,7 +18,8 @@ module _ (w : ℕ) (words : List ℕ) (i : ℕ) (before : (k : ℕ) → k < i �
       sym (ap at (position_or_len_is (λ x. x == w) words i 0 (omega arith) other (λ _. eq-eqb (get_or words i 0) w (sym (unwrap_or-slice_get words i 0) ∙ e)))
       ∙ ap (λ (b : Bool). cond b (Some i) None) (lt-ltb i (length words) l))
 
-  pub found_nowhere : i ≤ length words → length words ≤ i → None ≡ place_of w words
-  found_nowhere within past =
-      sym (ap at (position_or_len_is (λ x. x == w) words i 0 within other (λ l. absurd (omega arith)))
-      ∙ ap (λ (b : Bool). cond b (Some i) None) (le-ltb i (length words) past))
+  pub found_nowhere : length words ≤ i → None ≡ place_of w words
+  found_nowhere past =
+      let n = length words in
+      sym (ap at (position_or_len_is (λ x. x == w) words n 0 (omega arith) (λ k l. other k (omega arith)) (λ l. absurd (omega arith)))
+      ∙ ap (λ (b : Bool). cond b (Some n) None) (le-ltb n n (omega arith)))

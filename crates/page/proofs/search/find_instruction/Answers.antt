@@ -10,5 +10,5 @@ returns-then-word-instruction-clause-place g c =
 
 pub returns-clause-place : goal.returns-clause-place
 returns-clause-place g c =
-    found_nowhere c.args.instruction c.new-page.result.words.now c.loop-place.place c.loop-place.invariant (omega (arith, c.loop-place.auto.place-end, c.len-place-end.ensures)) (omega (arith, c.loop-place-test.false, c.len-place-end.ensures))
+    found_nowhere c.args.instruction c.new-page.result.words.now c.loop-place.place c.loop-place.invariant (omega (arith, c.loop-place-test.false, c.len-place-end.ensures))
     ∙ ap (place_of c.args.instruction) c.new-page.ensures.words
